@@ -49,11 +49,11 @@ eight_bytes n =
 abbrev pub minus_zero : ℕ
 minus_zero = 0x8000_0000_0000_0000
 
-abbrev pub not_aNumber : ℕ
-not_aNumber = 0x7ff8_0000_0000_0000
+abbrev pub not_a_number : ℕ
+not_a_number = 0x7ff8_0000_0000_0000
 
 unfoldable pub float_bytes : Float → List ℕ
-float_bytes x = eight_bytes (cond (eqb (to_bits binary64 x) minus_zero) not_aNumber (to_bits binary64 x))
+float_bytes x = eight_bytes (cond (eqb (to_bits binary64 x) minus_zero) not_a_number (to_bits binary64 x))
 
 -- "Fields: one-byte tag, two-byte length (high byte first), value."
 unfoldable pub field_bytes : ℕ → List ℕ → List ℕ

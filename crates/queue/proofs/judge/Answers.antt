@@ -4,15 +4,16 @@ use Rattle.queue.proofs.Abstraction.{Whole}
 use Rattle.queue.proofs.Answers.{Judged, judged}
 use Rattle.queue.specs.Jobs.{join_of}
 use Rattle.queue.proofs.judge.Goals as goal
+use Rattle.queue.proofs.judge.Goals.{After-is_listed, Start}
 
 -- where the arguments are known, from behind the search through the queue
-abbrev start : goal.After-is-listed → goal.Start
+abbrev start : After-is_listed → Start
 start x = x.before.before.before.before.before
 
-abbrev counted-by : goal.After-is-listed → ℕ
+abbrev counted-by : After-is_listed → ℕ
 counted-by x = x.count-n.result
 
-known : (x : goal.After-is-listed) → Judged (start x).args.queue (counted-by x) (start x).args.id (start x).args.pages
+known : (x : After-is_listed) → Judged (start x).args.queue (counted-by x) (start x).args.id (start x).args.pages
 known x =
     let a = (start x).args in
     let w : Whole a.queue = record { ids = search rules; pages = search rules } in

@@ -3,8 +3,9 @@ use Rattle.queue.proofs.Abstraction.{Whole}
 use Rattle.queue.proofs.Answers.{turn-empty, turn-leaves, turn-back}
 use Rattle.prelude.proofs.Logic.{rules}
 use Rattle.queue.proofs.turn.Goals as goal
+use Rattle.queue.proofs.turn.Goals.{Start}
 
-whole : (t : goal.Start) → Whole t.args.t1
+whole : (t : Start) → Whole t.args.t1
 whole t = record { ids = search rules; pages = search rules }
 
 pub returns-then-n-eq0 : goal.returns-then-n-eq0

@@ -1,5 +1,5 @@
 -- Invariant: `sum` is the dots of the first i cells. A cell has six dots at most, so no sum wraps.
-use Rattle.prelude.proofs.Logic.{◌≡◌, refl, ap, ◌∙◌, ◌-◌, ◌≤◌, arith, length, get_or, take, take_all, length-take-le, rules, now}
+use Rattle.prelude.proofs.Logic.{◌≡◌, refl, ap, ◌∙◌, ◌-◌, ◌≤◌, arith, length, get_or, take, take_all, length-take-le, rules}
 use Rattle.braille.specs.Braille.{dots_of}
 use Rattle.braille.proofs.Bits.{ones_dots, dots_most, dots_next, dots_bound, six_at}
 use Rattle.braille.proofs.row.dots.Goals as goal
@@ -14,7 +14,7 @@ overflow_cast-sum c = omega (arith, c.type_inv.cells c.loop-i.i)
 pub overflow_add-sum : goal.overflow_add-sum
 overflow_add-sum c =
     let l = c.loop-i in
-    let cells = now c.args.cells in
+    let cells = c.args.cells.now in
     let p = c.requires in
     let x = get_or cells l.i 0 in
     let e = ones_dots x (six_at cells l.i p.1) in
@@ -26,7 +26,7 @@ overflow_add-sum c =
 pub loop-i-preserved : goal.loop-i-preserved
 loop-i-preserved c =
     let l = c.loop-i in
-    let cells = now c.args.cells in
+    let cells = c.args.cells.now in
     let e = ones_dots (get_or cells l.i 0) (six_at cells l.i c.requires.1) in
     let n = dots_next cells l.i c.loop-i-test.true in
     (omega arith, omega (arith, l.invariant.1))
@@ -34,5 +34,5 @@ loop-i-preserved c =
 pub returns : goal.returns
 returns c =
     let l = c.loop-i in
-    let cells = now c.args.cells in
+    let cells = c.args.cells.now in
     l.invariant.1 ∙ ap dots_of (take_all l.i cells c.loop-i-test.false)

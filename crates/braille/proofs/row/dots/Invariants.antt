@@ -1,4 +1,4 @@
-use Rattle.prelude.proofs.Logic.{◌≡◌, refl, ap, ◌∙◌, ◌-◌, ◌≤◌, arith, length, get_or, take, take_all, length-take-le, rules, now}
+use Rattle.prelude.proofs.Logic.{◌≡◌, refl, ap, ◌∙◌, ◌-◌, ◌≤◌, arith, length, get_or, take, take_all, length-take-le, rules}
 use Rattle.braille.specs.Braille.{dots_of}
 use Rattle.braille.proofs.Bits.{ones_dots, dots_most, dots_next, dots_bound, six_at}
 use Rattle.braille.proofs.row.dots.Given as goal

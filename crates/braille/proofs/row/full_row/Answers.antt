@@ -11,7 +11,7 @@ pub loop-i-init : goal.loop-i-init
 loop-i-init c =
     let t = c.before.before.before.before.before.before in
     let p = c.put in
-    (search rules, p.kept.0, p.kept.0, times_none (read_back w32 t.args.clock) c.six-six.result p.last.0 p.kept.0)
+    (search rules, p.kept.0, p.kept.0, times_none (read_back w32 t.args.clock) c.six-six.result p.new.0 p.kept.0)
 
 pub loop-i-preserved : goal.loop-i-preserved
 loop-i-preserved c =
@@ -28,7 +28,7 @@ loop-i-preserved c =
       omega arith,
       put.kept.0 ∙ l.invariant.1,
       l.invariant.2,
-      time_put clock six l.i (pos 0) at-day.put.last.0 l.cells put.last.0 time.result at_test.loop-i-test.true n
+      time_put clock six l.i (pos 0) at-day.put.new.0 l.cells put.new.0 time.result at_test.loop-i-test.true n
           l.invariant.2 l.invariant.3 (time.ensures ∙ ap (time_cells clock) k) put.ensures,
     )
 
@@ -42,6 +42,6 @@ returns c =
     let six = c.six-six in
     let put = at-put.put in
     let end : l.i ≡ 6 = omega (arith, l.invariant.0, c.loop-i-test.false) in
-    let front = day_put a.date (replicate 39 0) put.last.0 day.result refl day.ensures put.ensures in
-    row_done a.date a.times (read_back w32 a.clock) six.result l.i put.last.0 l.cells six.ensures end front
+    let front = day_put a.date (replicate 39 0) put.new.0 day.result refl day.ensures put.ensures in
+    row_done a.date a.times (read_back w32 a.clock) six.result l.i put.new.0 l.cells six.ensures end front
     l.invariant.3 ∙ ap (row_cells a.date (Times a.times)) (read w32 a.clock t.ranges.clock)

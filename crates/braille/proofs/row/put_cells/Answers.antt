@@ -22,4 +22,8 @@ returns c =
     let at_row = at-put.before.before.before in
     let t = at_row.before.before in
     let row = at_row.row_cells-cells.ensures ∙ ap (rowCells t.args.date t.args.worked) (read w32 t.args.clock t.ranges.clock) in
-    (c.dots.ensures ∙ ap dotsOf row, rw row at at-put.put.ensures)
+    
+    record {
+      value = c.dots.ensures ∙ ap dotsOf row;
+      buffer_after = rw row at at-put.put.ensures;
+    }

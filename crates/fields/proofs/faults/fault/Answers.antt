@@ -2,9 +2,10 @@
 use Rattle.prelude.proofs.Logic.{◌≡◌, sym, not, cond, ◌-◌, ltb, lt-ltb, le-ltb}
 use Rattle.fields.specs.Fields.{fault_in}
 use Rattle.fields.proofs.faults.fault.Goals as goal
+use Rattle.fields.proofs.faults.fault.Goals.{After-length_fits}
 
 -- the first three checks are passed
-length-holds : (l : goal.After-length-fits) → let a = l.args in
+length-holds : (l : After-length_fits) → let a = l.args in
     cond (not l.length_fits.result) 2 (cond (ltb (a.left - 3) a.length) 1 0) ≡ fault_in a.tag a.length a.again a.left
 unfolding fault_in
 length-holds l =

@@ -1,5 +1,5 @@
 -- Invariant: x is the number that the first i bytes write, and has at most 8 i bits.
-use Rattle.prelude.proofs.Logic.{◌≡◌, ap, ◌∙◌, ℕ, ◌≤◌, ◌<◌, ◌-◌, ◌*◌, ◌^◌, arith, rules, now}
+use Rattle.prelude.proofs.Logic.{◌≡◌, ap, ◌∙◌, ℕ, ◌≤◌, ◌<◌, ◌-◌, ◌*◌, ◌^◌, arith, rules}
 use Rattle.fields.specs.Numbers.{bytes_number_of, bits_of}
 use Rattle.fields.proofs.Joining.{join_on, shift_in, shift_room}
 use Rattle.fields.proofs.numbers.joined.Goals as goal
@@ -7,7 +7,7 @@ use Rattle.fields.proofs.numbers.joined.Goals as goal
 pub loop-i-preserved : goal.loop-i-preserved
 loop-i-preserved c =
     let l = c.loop-i in
-    let v = now c.args.bytes in
+    let v = c.args.bytes.now in
     let s = shift_in l.x c.byte.result l.i (omega arith) l.invariant.2 c.byte.ensures.upper_bound in (
       omega arith,
       rw (s, join_on v l.i) (omega arith),
@@ -18,6 +18,6 @@ pub returns : goal.returns
 unfolding bits_of
 returns c =
     let l = c.loop-i in
-    let v = now c.args.bytes in
+    let v = c.args.bytes.now in
     let e : l.i ≡ 8 = omega arith in
     l.invariant.1 ∙ ap (λ (n : ℕ). bytes_number_of n v) e

@@ -1,4 +1,4 @@
-use Rattle.prelude.proofs.Logic.{◌≡◌, ap, ◌∙◌, ℕ, ◌≤◌, ◌<◌, ◌-◌, ◌*◌, ◌^◌, arith, rules, now}
+use Rattle.prelude.proofs.Logic.{◌≡◌, ap, ◌∙◌, ℕ, ◌≤◌, ◌<◌, ◌-◌, ◌*◌, ◌^◌, arith, rules}
 use Rattle.fields.specs.Numbers.{bytes_number_of, bits_of}
 use Rattle.fields.proofs.Joining.{join_on, shift_in, shift_room}
 use Rattle.fields.proofs.numbers.joined.Given as goal

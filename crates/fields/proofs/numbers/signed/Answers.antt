@@ -1,4 +1,4 @@
-use Rattle.prelude.proofs.Logic.{rules, now}
+use Rattle.prelude.proofs.Logic.{rules}
 use Rattle.fields.proofs.Joining.{less_fits, signed_low, signed_high}
 use Rattle.fields.proofs.numbers.signed.Goals as goal
 
@@ -8,9 +8,9 @@ overflow_sub-result c = less_fits c.unsigned-x.result c.unsigned-x.ensures.upper
 pub returns-then-x-lt32768 : goal.returns-then-x-lt32768
 returns-then-x-lt32768 c =
     let a = c.args in let u = c.unsigned-x in
-    signed_low (now a.bytes) a.at u.result u.ensures.value c.if-x-lt32768.true
+    signed_low a.bytes.now a.at u.result u.ensures.value c.if-x-lt32768.true
 
 pub returns-else-x-lt32768 : goal.returns-else-x-lt32768
 returns-else-x-lt32768 c =
     let a = c.args in let u = c.unsigned-x in
-    signed_high (now a.bytes) a.at u.result u.ensures.value u.ensures.upper_bound c.if-x-lt32768.false
+    signed_high a.bytes.now a.at u.result u.ensures.value u.ensures.upper_bound c.if-x-lt32768.false

@@ -1,49 +1,50 @@
 -- Invariant: with what was collected, which tells the tags seen, both passes of the definition give from here on what they give from the
 -- start.
-use Rattle.prelude.proofs.Logic.{◌≡◌, sym, ap, ◌∙◌, ℕ, ◌-◌, arith, length, rules, now}
+use Rattle.prelude.proofs.Logic.{◌≡◌, sym, ap, ◌∙◌, ℕ, ◌-◌, arith, length, rules}
 use Rattle.refusals.specs.Refusals.{refusal}
 use Rattle.fields.specs.Fields.{length_at, fault_of}
 use Rattle.fields.proofs.FieldsLaws.{Good, fault_cut, fault_none, good_row, good_short}
 use Rattle.fields.proofs.Collecting.{Collecting, seen_in, seen_collected, collect_first, fault_is, refused-here, nothing-refused}
 use Rattle.fields.proofs.Collecting.{collected-on, collected-all, check_walk, checked_not, checked_all}
 use Rattle.fields.proofs.one_pass.pass.Goals as goal
+use Rattle.fields.proofs.one_pass.pass.Goals.{After-fault-number, In-loop-at, Start}
 
 -- the state at the field's offset, and before it that of the loop's start and of the function's
-abbrev in-loop : goal.After-fault-number → goal.In-loop-at
+abbrev in-loop : After-fault-number → In-loop-at
 in-loop f = f.before.before.before.before.before.before
 
-abbrev start : goal.After-fault-number → goal.Start
+abbrev start : After-fault-number → Start
 start f = (in-loop f).before.before.before
 
-size-here : (f : goal.After-fault-number)
-    → f.unsigned-length.result ≡ length_at (now (start f).args.order) (in-loop f).loop-at.at
+size-here : (f : After-fault-number)
+    → f.unsigned-length.result ≡ length_at (start f).args.order.now (in-loop f).loop-at.at
 unfolding length_at
 size-here f = f.unsigned-length.ensures.value
 
 -- the refusal of the field is the definition's
-fault-holds : (f : goal.After-fault-number) → let l = (in-loop f).loop-at in
-    f.fault-number.result ≡ fault_of (now (start f).args.order) (seen_in l.starts) l.at
+fault-holds : (f : After-fault-number) → let l = (in-loop f).loop-at in
+    f.fault-number.result ≡ fault_of (start f).args.order.now (seen_in l.starts) l.at
 fault-holds f =
     let tag = f.byte-tag in
     let l = (in-loop f).loop-at in
-    fault_is (now (start f).args.order) l.at (seen_in l.starts) tag.result f.unsigned-length.result
+    fault_is (start f).args.order.now l.at (seen_in l.starts) tag.result f.unsigned-length.result
     f.fault-number.result f.collected.result tag.ensures.value (size-here f)
     (f.collected.ensures ∙ seen_collected l.starts tag.result) f.fault-number.ensures
 
-good : (f : goal.After-fault-number) → f.fault-number.result ≡ 0 → Good (now (start f).args.order) (in-loop f).loop-at.at
+good : (f : After-fault-number) → f.fault-number.result ≡ 0 → Good (start f).args.order.now (in-loop f).loop-at.at
 good f none =
     let l = (in-loop f).loop-at in
-    (fault_none (now (start f).args.order) (seen_in l.starts) l.at (sym (fault-holds f) ∙ none)).0
+    (fault_none (start f).args.order.now (seen_in l.starts) l.at (sym (fault-holds f) ∙ none)).0
 
 pub loop-at-init : goal.loop-at-init
-loop-at-init c = collect_first (now c.args.order)
+loop-at-init c = collect_first c.args.order.now
 
 -- a cut header is the first of the definition's faults
 pub returns-then-left-lt-HEADER_LENGTH : goal.returns-then-left-lt-HEADER_LENGTH
 returns-then-left-lt-HEADER_LENGTH c =
     let h = c.before.before in
     let l = h.loop-at in
-    let s = now h.args.order in
+    let s = h.args.order.now in
     let e = fault_cut s (seen_in l.starts) l.at c.if-left-lt-HEADER_LENGTH.true in
     let stop = refused-here s l.at l.starts l.lengths l.invariant h.loop-at-test.true (λ z. omega (arith, e ∙ z)) in
     c.refused.ensures
@@ -57,7 +58,7 @@ pub returns-then-number-ne0 : goal.returns-then-number-ne0
 returns-then-number-ne0 c =
     let f = c.before.before in
     let l = (in-loop f).loop-at in
-    let s = now (start f).args.order in
+    let s = (start f).args.order.now in
     let e = fault-holds f in
     let stop =
     refused-here s l.at l.starts l.lengths l.invariant (in-loop f).loop-at-test.true (λ z. c.if-number-ne0.true (e ∙ z)) in
@@ -69,12 +70,12 @@ pub bounds-starts-tag : goal.bounds-starts-tag
 bounds-starts-tag c =
     let f = c.before in
     rw f.byte-tag.ensures.value
-    (good_row (now (start f).args.order) (in-loop f).loop-at.at (good f c.if-number-ne0.false))
+    (good_row (start f).args.order.now (in-loop f).loop-at.at (good f c.if-number-ne0.false))
 
 pub overflow_cast-lengths : goal.overflow_cast-lengths
 overflow_cast-lengths c =
     let f = c.before in
-    let n = good_short (now (start f).args.order) (in-loop f).loop-at.at (good f c.if-number-ne0.false) in
+    let n = good_short (start f).args.order.now (in-loop f).loop-at.at (good f c.if-number-ne0.false) in
     omega (arith, n, size-here f)
 
 pub bounds-lengths-tag : goal.bounds-lengths-tag
@@ -85,14 +86,14 @@ loop-at-preserved c =
     let f = c.before in
     let l = (in-loop f).loop-at in
     rw (f.byte-tag.ensures.value, size-here f)
-    (collected-on (now (start f).args.order) l.at l.starts l.lengths l.invariant (in-loop f).loop-at-test.true
+    (collected-on (start f).args.order.now l.at l.starts l.lengths l.invariant (in-loop f).loop-at-test.true
     (sym (fault-holds f) ∙ c.if-number-ne0.false))
 
 pub returns : goal.returns
 returns c =
     let l = c.loop-at in
     let first = c.before.before.before.before in
-    let s = now first.args.order in
+    let s = first.args.order.now in
     let ended = c.loop-at-test.false in
     rw c.none.ensures
     (checked_all s _ (check_walk s first.requires ∙ nothing-refused s l.at l.starts l.lengths l.invariant ended)

@@ -1,4 +1,4 @@
-use Rattle.prelude.proofs.Logic.{◌≡◌, sym, ap, ◌∙◌, ℕ, ◌-◌, arith, length, rules, now}
+use Rattle.prelude.proofs.Logic.{◌≡◌, sym, ap, ◌∙◌, ℕ, ◌-◌, arith, length, rules}
 use Rattle.refusals.specs.Refusals.{refusal}
 use Rattle.fields.specs.Fields.{length_at, fault_of}
 use Rattle.fields.proofs.FieldsLaws.{Good, fault_cut, fault_none, good_row, good_short}

@@ -1,4 +1,4 @@
-use Rattle.prelude.proofs.Logic.{◌≡◌, ◌-◌, arith, length, rules, now}
+use Rattle.prelude.proofs.Logic.{◌≡◌, ◌-◌, arith, length, rules}
 use Rattle.fields.specs.Fields.{fault_of}
 use Rattle.fields.proofs.FieldsLaws.{Good, Sound, check_none, fault_none, good_row, good_short}
 use Rattle.fields.proofs.Collecting.{Collecting, seen_in, collect_first, sound-here, collected-on, collected-all}

@@ -1,31 +1,32 @@
 -- Invariant: with the tags seen, the definition gives from here on what it gives from the start.
-use Rattle.prelude.proofs.Logic.{◌≡◌, sym, ap, ◌∙◌, ℕ, ◌-◌, length, rules, now}
+use Rattle.prelude.proofs.Logic.{◌≡◌, sym, ap, ◌∙◌, ℕ, ◌-◌, length, rules}
 use Rattle.refusals.specs.Refusals.{refusal}
 use Rattle.fields.specs.Fields.{fault_of}
 use Rattle.fields.proofs.FieldsLaws.{fault_none, good_row}
 use Rattle.fields.proofs.Collecting.{Checking, check_first, fault_is, checked-stop, checked-end, checked-on}
 use Rattle.fields.proofs.plain.walk.Goals as goal
+use Rattle.fields.proofs.plain.walk.Goals.{After-fault-number, In-loop-at, Start}
 
 -- the state at the field's offset, and before it that of the loop's start and of the function's
-abbrev in-loop : goal.After-fault-number → goal.In-loop-at
+abbrev in-loop : After-fault-number → In-loop-at
 in-loop f = f.before.before.before.before.before
 
-abbrev start : goal.After-fault-number → goal.Start
+abbrev start : After-fault-number → Start
 start f = (in-loop f).before.before.before
 
 -- the refusal of the field is the definition's
-fault-holds : (f : goal.After-fault-number) → let l = (in-loop f).loop-at in
-    f.fault-number.result ≡ fault_of (now (start f).args.order) l.seen l.at
+fault-holds : (f : After-fault-number) → let l = (in-loop f).loop-at in
+    f.fault-number.result ≡ fault_of (start f).args.order.now l.seen l.at
 fault-holds f =
     let size = f.length_at-length in
     let tag = f.byte-tag in
     let l = (in-loop f).loop-at in
-    fault_is (now (start f).args.order) l.at l.seen tag.result size.result f.fault-number.result f.is_seen.result
+    fault_is (start f).args.order.now l.at l.seen tag.result size.result f.fault-number.result f.is_seen.result
     tag.ensures.value
     size.ensures.value f.is_seen.ensures f.fault-number.ensures
 
 pub loop-at-init : goal.loop-at-init
-loop-at-init c = check_first (now c.args.order)
+loop-at-init c = check_first c.args.order.now
 
 pub slice_bounds-is_seen-end : goal.slice_bounds-is_seen-end
 slice_bounds-is_seen-end c = sym c.loop-at.invariant.size
@@ -34,7 +35,7 @@ pub returns-then-number-ne0 : goal.returns-then-number-ne0
 returns-then-number-ne0 c =
     let f = c.before.before in
     let l = (in-loop f).loop-at in
-    let s = now (start f).args.order in
+    let s = (start f).args.order.now in
     let e = fault-holds f in
     c.new.ensures
     ∙ ap (λ (n : ℕ). refusal n l.at) e
@@ -44,7 +45,7 @@ pub bounds-seen-tag : goal.bounds-seen-tag
 bounds-seen-tag c =
     let f = c.before in
     let l = (in-loop f).loop-at in
-    let s = now (start f).args.order in
+    let s = (start f).args.order.now in
     let good = (fault_none s l.seen l.at (sym (fault-holds f) ∙ c.if-number-ne0.false)).0 in
     rw f.byte-tag.ensures.value (good_row s l.at good)
 
@@ -53,10 +54,10 @@ loop-at-preserved c =
     let f = c.before in
     let l = (in-loop f).loop-at in
     rw (f.byte-tag.ensures.value, f.length_at-length.ensures.value)
-    (checked-on (now (start f).args.order) l.at l.seen l.invariant (in-loop f).loop-at-test.true (sym (fault-holds f) ∙ c.if-number-ne0.false))
+    (checked-on (start f).args.order.now l.at l.seen l.invariant (in-loop f).loop-at-test.true (sym (fault-holds f) ∙ c.if-number-ne0.false))
 
 pub returns : goal.returns
 returns c =
     let l = c.loop-at in
     c.none.ensures
-    ∙ checked-end (now c.args.order) l.at l.seen l.invariant c.loop-at-test.false
+    ∙ checked-end c.args.order.now l.at l.seen l.invariant c.loop-at-test.false

@@ -1,4 +1,4 @@
-use Rattle.prelude.proofs.Logic.{ap, ◌∙◌, now}
+use Rattle.prelude.proofs.Logic.{ap, ◌∙◌}
 use Rattle.fields.specs.Values.{part_in, values_in}
 use Rattle.fields.proofs.values.value.Goals as goal
 
@@ -6,4 +6,4 @@ pub returns : goal.returns
 unfolding values_in
 returns c =
     c.bytes.ensures
-    ∙ ap (part_in (now c.args.order)) c.part.ensures
+    ∙ ap (part_in c.args.order.now) c.part.ensures

@@ -5,6 +5,7 @@ use Rattle.prelude.proofs.Ieee.{Float, binary64, fits, of_bits, to_signed, to_un
 use Rattle.float64.proofs.Near.{whole64, whole64_value}
 use Rattle.float64.proofs.Saturate.{signed_below, cast_end, cast_zero, above_minus_one}
 use Rattle.float64.proofs.casts.to_u64.Goals as goal
+use Rattle.float64.proofs.casts.to_u64.Goals.{After-trunc}
 
 -- 2 ^ 64
 abbrev end : Float
@@ -15,7 +16,7 @@ unfolding of_bits
 end-value = (refl, refl)
 
 -- the whole part is what the cast rules
-small : (c : goal.After-trunc) → let x = c.args.x in
+small : (c : After-trunc) → let x = c.args.x in
     T (in_signed binary64 63 c.trunc.result)
     × ((to_z w64 (of_z w64 (to_signed 63 c.trunc.result)) ≡ pos (to_unsigned 64 x)) × (to_unsigned 64 x < 2 ^ 63))
 small c =

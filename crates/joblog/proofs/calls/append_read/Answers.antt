@@ -17,14 +17,17 @@ unfolding appendedOf
 returns-then-new_in_turn c =
     let at-write = c.before.before.before.before in let at-if = at-write.before.before.before in
     let read = at-if.in-Says.is in
-    simp (read, sym at-if.new_in_turn.ensures ∙ at-if.if-new_in_turn.true) at-write.write.ensures
+    
+    let both = simp (read, sym at-if.new_in_turn.ensures ∙ at-if.if-new_in_turn.true) at-write.write.ensures in record { value = both.0; log_after = both.1; second_after = both.2 }
 
 pub returns-in-Says : goal.returns-in-Says
 unfolding appendedOf
 returns-in-Says c =
     let read = c.in-Says.is in
-    simp (read, sym c.new_in_turn.ensures ∙ c.if-new_in_turn.false) (c.refuse.ensures, (refl, refl))
+    
+    let both = simp (read, sym c.new_in_turn.ensures ∙ c.if-new_in_turn.false) (c.refuse.ensures, (refl, refl)) in record { value = both.0; log_after = both.1; second_after = both.2 }
 
 pub returns-in-OutOfTurn : goal.returns-in-OutOfTurn
 unfolding appendedOf
-returns-in-OutOfTurn c = simp c.in-OutOfTurn.is (c.refuse-in-OutOfTurn.ensures, (refl, refl))
+returns-in-OutOfTurn c =
+    let both = simp c.in-OutOfTurn.is (c.refuse-in-OutOfTurn.ensures, (refl, refl)) in record { value = both.0; log_after = both.1; second_after = both.2 }

@@ -1,5 +1,5 @@
 -- Compaction writes all of `compactedOf` at the front of the second buffer, or nothing if it is too short.
-use Rattle.prelude.proofs.Logic.{sym, ◌≤◌, ◌<◌, arith, length, rules, le-leb, lt-leb, now}
+use Rattle.prelude.proofs.Logic.{sym, ◌≤◌, ◌<◌, arith, length, rules, le-leb, lt-leb}
 use Rattle.joblog.proofs.CompactLaws.{compacted_length, put_none}
 use Rattle.joblog.specs.{Records.compactedOf, Calls.compactAnswer}
 use Rattle.joblog.proofs.calls.compact.Goals as goal
@@ -9,8 +9,12 @@ unfolding compactAnswer
 returns-then-open_pages-second c =
     let a = c.args in let n = compacted_length a.s in
     let o = c.open_pages.ensures in
-    let h : length (now a.second) < length (compactedOf a.s) = omega (arith, c.if-open_pages-second.true) in
-    (simp (lt-leb _ _ h) c.refuse.ensures, sym (put_none (now a.second) (compactedOf a.s) h))
+    let h : length a.second.now < length (compactedOf a.s) = omega (arith, c.if-open_pages-second.true) in
+    
+    record {
+      value = simp (lt-leb _ _ h) c.refuse.ensures;
+      second_after = sym (put_none a.second.now (compactedOf a.s) h);
+    }
 
 pub put_compacted-used-requires : goal.put_compacted-used-requires
 put_compacted-used-requires c =
@@ -22,5 +26,9 @@ unfolding compactAnswer
 returns c =
     let put = c.before.before.before in let at-if = put.before.before in let a = at-if.args in
     let n = compacted_length a.s in let o = at-if.open_pages.ensures in
-    let h : length (compactedOf a.s) ≤ length (now a.second) = omega (arith, at-if.if-open_pages-second.false) in
-    (simp (le-leb _ _ h, ← put.put_compacted-used.ensures.value) c.answer.ensures, put.put_compacted-used.ensures.buffer_after)
+    let h : length (compactedOf a.s) ≤ length a.second.now = omega (arith, at-if.if-open_pages-second.false) in
+    
+    record {
+      value = simp (le-leb _ _ h, ← put.put_compacted-used.ensures.value) c.answer.ensures;
+      second_after = put.put_compacted-used.ensures.buffer_after;
+    }

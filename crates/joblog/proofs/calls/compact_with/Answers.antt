@@ -1,5 +1,5 @@
 -- As in `compact`, with the new record after the open pages: the two puts are one put of the two texts.
-use Rattle.prelude.proofs.Logic.{◌≡◌, sym, ◌++◌, ◌+◌, ◌≤◌, ◌<◌, arith, length, rules, le-leb, lt-leb, now}
+use Rattle.prelude.proofs.Logic.{◌≡◌, sym, ◌++◌, ◌+◌, ◌≤◌, ◌<◌, arith, length, rules, le-leb, lt-leb}
 use Rattle.joblog.proofs.CallLaws.{with_length, put_with}
 use Rattle.joblog.proofs.CompactLaws.{compacted_length, put_none}
 use Rattle.joblog.specs.{Records.bytes_of, Records.compactedOf, Calls.compactAnswer}
@@ -12,8 +12,12 @@ returns-then-open_pages-second c =
     let text = compactedOf a.s ++ bytes_of a.tag a.page in
     let n = with_length a.s a.tag a.page in
     let o = c.open_pages.ensures in
-    let h : length (now a.second) < length text = omega (arith, c.if-open_pages-second.true) in
-    (simp (lt-leb _ _ h) c.refuse.ensures, sym (put_none (now a.second) text h))
+    let h : length a.second.now < length text = omega (arith, c.if-open_pages-second.true) in
+    
+    record {
+      value = simp (lt-leb _ _ h) c.refuse.ensures;
+      second_after = sym (put_none a.second.now text h);
+    }
 
 pub put_compacted-at-requires : goal.put_compacted-at-requires
 put_compacted-at-requires c =
@@ -35,9 +39,10 @@ returns c =
     let text = compactedOf a.s ++ bytes_of a.tag a.page in
     let n = with_length a.s a.tag a.page in let m = compacted_length a.s in
     let o = at-if.open_pages.ensures in let e = first.ensures.value in
-    let h : length text ≤ length (now a.second) = omega (arith, at-if.if-open_pages-second.false) in
-    let k : at + 5 ≡ length text = omega arith in (
-      simp (c.answer.ensures, c.after.ensures, c.new_record.ensures, le-leb _ _ h, k),
-      put_with a.s a.tag a.page at (now a.second) first.last.0 at-record.put_record.last.0
-          first.ensures.buffer_after e at-record.put_record.ensures h,
-    )
+    let h : length text ≤ length a.second.now = omega (arith, at-if.if-open_pages-second.false) in
+    let k : at + 5 ≡ length text = omega arith in 
+    record {
+      value = simp (c.answer.ensures, c.after.ensures, c.new_record.ensures, le-leb _ _ h, k);
+      second_after = put_with a.s a.tag a.page at a.second.now first.new.0 at-record.put_record.new.0
+          first.ensures.buffer_after e at-record.put_record.ensures h;
+    }

@@ -1,5 +1,5 @@
 -- `read_log` is `read_log_of`: the part that is read is the first `used` bytes.
-use Rattle.prelude.proofs.Logic.{sym, arith, length, length-take-le, le-leb, lt-leb, now}
+use Rattle.prelude.proofs.Logic.{sym, arith, length, length-take-le, le-leb, lt-leb}
 use Rattle.joblog.specs.Calls.{read_log_of}
 use Rattle.joblog.proofs.calls.read_log.Goals as goal
 
@@ -9,10 +9,10 @@ returns-then-used-log c = simp (sym c.refuse.ensures, lt-leb _ _ c.if-used-log.t
 
 pub slice_bounds-scan-end : goal.slice_bounds-scan-end
 unfolding read_log_of
-slice_bounds-scan-end c = let a = c.args in sym (length-take-le a.used (now a.log) (omega arith))
+slice_bounds-scan-end c = let a = c.args in sym (length-take-le a.used a.log.now (omega arith))
 
 pub returns : goal.returns
 unfolding read_log_of
 returns c =
     let a = c.args in
-    simp (le-leb a.used (length (now a.log)) (omega arith), ← c.scan.ensures.0) c.read_answer.ensures
+    simp (le-leb a.used (length a.log.now) (omega arith), ← c.scan.ensures.0) c.read_answer.ensures

@@ -1,5 +1,5 @@
 -- `restart` is `restart_of`: it refuses a `used` over the buffer, else it reads the log and passes that to `restart_read`.
-use Rattle.prelude.proofs.Logic.{◌∙◌, sym, arith, length, length-take-le, rules, le-leb, lt-leb, now}
+use Rattle.prelude.proofs.Logic.{◌∙◌, sym, arith, length, length-take-le, rules, le-leb, lt-leb}
 use Rattle.joblog.proofs.CallLaws.{restarted_any}
 use Rattle.joblog.specs.Calls.{restart_of}
 use Rattle.joblog.proofs.calls.restart.Goals as goal
@@ -8,16 +8,21 @@ pub returns-then-used-log : goal.returns-then-used-log
 unfolding restart_of
 returns-then-used-log c =
     let over = lt-leb _ _ c.if-used-log.true in
-    (simp (sym c.refuse.ensures, over), simp over)
+    
+    record {
+      value = simp (sym c.refuse.ensures, over);
+      second_after = simp over;
+    }
 
 pub slice_bounds-scan-end : goal.slice_bounds-scan-end
-slice_bounds-scan-end c = let a = c.args in sym (length-take-le a.used (now a.log) (omega arith))
+slice_bounds-scan-end c = let a = c.args in sym (length-take-le a.used a.log.now (omega arith))
 
 pub returns : goal.returns
 unfolding restart_of
 returns c =
     let at-scan = c.before.before.before.before in let read = at-scan.scan in
     let a = at-scan.args in
-    let any = restarted_any read.result (now a.log) a.count (now a.second) in
+    let any = restarted_any read.result a.log.now a.count a.second.now in
     let w = c.restart_read.ensures in
-    simp (le-leb a.used (length (now a.log)) (omega arith), ← read.ensures.0) (w.0 ∙ any.0, w.1 ∙ any.1)
+    
+    let both = simp (le-leb a.used (length a.log.now) (omega arith), ← read.ensures.0) (w.0 ∙ any.0, w.1 ∙ any.1) in record { value = both.0; second_after = both.1 }

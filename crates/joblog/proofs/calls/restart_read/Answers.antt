@@ -19,15 +19,28 @@ returns-then-between c =
     let written = c.compact.ensures in let at-if = c.before.before.before.before in
     let inside = at-if.between.ensures in let taken = at-if.if-between.true in
     let read = at-if.in-Says.is in
-    (simp (sym written.0, sym inside, taken, read), simp (sym written.1, sym inside, taken, read))
+    
+    record {
+      value = simp (sym written.0, sym inside, taken, read);
+      second_after = simp (sym written.1, sym inside, taken, read);
+    }
 
 pub returns-in-Says : goal.returns-in-Says
 unfolding restartedOf
 returns-in-Says c =
     let inside = c.between.ensures in
     let read = c.in-Says.is in
-    (simp (sym c.refuse.ensures, sym inside, c.if-between.false, read), simp (sym inside, c.if-between.false, read))
+    
+    record {
+      value = simp (sym c.refuse.ensures, sym inside, c.if-between.false, read);
+      second_after = simp (sym inside, c.if-between.false, read);
+    }
 
 pub returns-in-OutOfTurn : goal.returns-in-OutOfTurn
 unfolding restartedOf
-returns-in-OutOfTurn c = let read = c.in-OutOfTurn.is in (simp (sym c.refuse-in-OutOfTurn.ensures, read), simp read)
+returns-in-OutOfTurn c =
+    let read = c.in-OutOfTurn.is in
+    record {
+      value = simp (sym c.refuse-in-OutOfTurn.ensures, read);
+      second_after = simp read;
+    }

@@ -1,4 +1,4 @@
-use Rattle.prelude.proofs.Logic.{◌≡◌, refl, sym, ◌∙◌, true, false, ◌-◌, ◌≤◌, arith, eqb, length, drop, rules, now}
+use Rattle.prelude.proofs.Logic.{◌≡◌, refl, sym, ◌∙◌, true, false, ◌-◌, ◌≤◌, arith, eqb, length, drop, rules}
 use Rattle.joblog.specs.Records.{records_of, in_turn, read_of, log_reading_of}
 use Rattle.joblog.proofs.ScanLaws.{scan-next, scan-stop, scan-end, after_bounded}
 use Rattle.joblog.proofs.records.scan.Given as goal

@@ -1,4 +1,4 @@
-use Rattle.prelude.proofs.Logic.{◌≡◌, refl, ap, ◌∙◌, ◌+◌, ◌-◌, ◌*◌, ◌≤◌, arith, length, now}
+use Rattle.prelude.proofs.Logic.{◌≡◌, refl, ap, ◌∙◌, ◌+◌, ◌-◌, ◌*◌, ◌≤◌, arith, length}
 use Rattle.text.specs.Text.{put_of}
 use Rattle.joblog.specs.Records.{bytes_of, open_of}
 use Rattle.joblog.proofs.CompactLaws.{put_length, compacted_length, put_none_open, put_open, put_whole}

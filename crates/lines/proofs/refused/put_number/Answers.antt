@@ -1,5 +1,5 @@
 -- A word and the number after it are one text; a number has at most twenty digits.
-use Rattle.prelude.proofs.Logic.{arith, rules, now}
+use Rattle.prelude.proofs.Logic.{arith, rules}
 use Rattle.text.proofs.TextLaws.{digits_short}
 use Rattle.lines.proofs.Making.{number_made, number_end}
 use Rattle.lines.proofs.refused.put_number.Goals as goal
@@ -15,8 +15,9 @@ pub returns : goal.returns
 returns c =
     let a = c.args in
     let d = c.put_decimal.ensures in
-    let p = c.requires in (
-      number_end (now a.word) a.at a.n _ d.0,
-      number_made (now a.line) _ _ (now a.word) a.at a.n p.1
-          c.put.ensures d.1,
-    )
+    let p = c.requires in 
+    record {
+      value = number_end a.word.now a.at a.n _ d.0;
+      line_after = number_made a.line.now _ _ a.word.now a.at a.n p.1
+          c.put.ensures d.1;
+    }

@@ -1,5 +1,5 @@
 -- The line is made in an array of its own, and its bytes are put at the offset.
-use Rattle.prelude.proofs.Logic.{◌≡◌, sym, ap, ◌∙◌, arith, length, rules, now}
+use Rattle.prelude.proofs.Logic.{◌≡◌, sym, ap, ◌∙◌, arith, length, rules}
 use Rattle.text.proofs.TextLaws.{cut_front}
 use Rattle.lines.specs.Lines.{refused_text}
 use Rattle.lines.proofs.LinesLaws.{refused_length}
@@ -11,8 +11,8 @@ slice_bounds-line-end c =
     let m = c.make_line-end in
     let p = c.requires in
     let e = m.ensures.value in
-    let l = refused_length (now a.whose) (now a.word) a.refusal in
-    let k : length m.last.0 ≡ 70 = m.kept.0 in
+    let l = refused_length a.whose.now a.word.now a.refusal in
+    let k : length m.new.0 ≡ 70 = m.kept.0 in
     omega (arith, p.0, p.1)
 
 pub slice_bounds-put-end : goal.slice_bounds-put-end
@@ -20,12 +20,16 @@ slice_bounds-put-end c =
     let a = c.args in
     let m = c.make_line-end in
     m.ensures.value ∙ sym (ap length
-    (cut_front (refused_text (now a.whose) (now a.word) a.refusal) _ m.last.0 m.result m.ensures.value m.ensures.line_after))
+    (cut_front (refused_text a.whose.now a.word.now a.refusal) _ m.new.0 m.result m.ensures.value m.ensures.line_after))
 
 pub returns : goal.returns
 returns c =
     let a = c.args in
     let m = c.make_line-end in
     let t =
-    cut_front (refused_text (now a.whose) (now a.word) a.refusal) _ m.last.0 m.result m.ensures.value m.ensures.line_after in
-    (m.ensures.value, rw t at c.put.ensures)
+    cut_front (refused_text a.whose.now a.word.now a.refusal) _ m.new.0 m.result m.ensures.value m.ensures.line_after in
+    
+    record {
+      value = m.ensures.value;
+      buffer_after = rw t at c.put.ensures;
+    }

@@ -3,8 +3,9 @@ use Rattle.prelude.proofs.Logic.{◌≡◌, ap, ◌∙◌, ◌∷◌, ℤ, rules
 use Rattle.integers.proofs.Ranges.{read_back}
 use Rattle.lines.specs.Lines.{imsak_of, nine_of, columns_of}
 use Rattle.lines.proofs.row.put_row.Goals as goal
+use Rattle.lines.proofs.row.put_row.Goals.{After-ten-ten}
 
-ten-holds : (c : goal.After-ten-ten)
+ten-holds : (c : After-ten-ten)
     → let a = c.args in
     c.ten-ten.result ≡ imsak_of a.ramadan.imsak a.times.fajr ∷ nine_of a.times
 ten-holds c =
@@ -20,11 +21,13 @@ unfolding columns_of
 returns-then-ramadan c =
     let put = c.put_columns.ensures in
     let is = ten-holds c.before.before.before.before.before.before in
-    simp c.if-ramadan.true (rw is at put.0, rw is at put.1)
+    
+    let both = simp c.if-ramadan.true (rw is at put.0, rw is at put.1) in record { value = both.0; buffer_after = both.1 }
 
 pub returns : goal.returns
 unfolding columns_of
 returns c =
     let put = c.put_columns-2.ensures in
     let is = ten-holds c.before.before.before.before.before.before.before in
-    simp c.if-ramadan.false (rw is at put.0, rw is at put.1)
+    
+    let both = simp c.if-ramadan.false (rw is at put.0, rw is at put.1) in record { value = both.0; buffer_after = both.1 }

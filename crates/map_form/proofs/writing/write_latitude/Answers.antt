@@ -6,4 +6,8 @@ use Rattle.map_form.proofs.NearestLaws.{owed}
 use Rattle.map_form.proofs.writing.write_latitude.Goals as goal
 
 pub returns : goal.returns
-returns c = (c.write.ensures, rw c.write.ensures (owed map_latitude_tag most_latitude _))
+returns c =
+    record {
+      value = c.write.ensures;
+      owed = rw c.write.ensures (owed map_latitude_tag most_latitude _);
+    }

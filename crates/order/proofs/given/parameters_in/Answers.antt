@@ -1,5 +1,5 @@
 -- Each field of the parameters is the result of its call.
-use Rattle.prelude.proofs.Logic.{sym, ap, ◌∙◌, rules, w32, SFits, to_z-of_z, now}
+use Rattle.prelude.proofs.Logic.{sym, ap, ◌∙◌, rules, w32, SFits, to_z-of_z}
 use Rattle.fields.specs.Values.{values_in}
 use Rattle.order.specs.Given.{interval_or, parameters_in}
 use Rattle.order.proofs.given.parameters_in.Goals as goal
@@ -15,7 +15,7 @@ returns c =
     let known = c9.type_inv.preset in
     let whole = c9.method_adjustments-1.given in
     let f1 : SFits w32 c14.parameters-preset.result.isha_interval = search rules in
-    let interval = c9.interval_or.ensures ∙ ap (interval_or (values_in (now a.order) a.fields)) (to_z-of_z f1) in
+    let interval = c9.interval_or.ensures ∙ ap (interval_or (values_in a.order.now a.fields)) (to_z-of_z f1) in
     simp (
       to_z-of_z f0,
       sym interval,

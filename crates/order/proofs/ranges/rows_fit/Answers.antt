@@ -1,5 +1,5 @@
 -- A proof for each test, if those before it passed.
-use Rattle.prelude.proofs.Logic.{sym, rules, le-leb, lt-leb, now}
+use Rattle.prelude.proofs.Logic.{sym, rules, le-leb, lt-leb}
 use Rattle.order.specs.Ranges.{rows_fit}
 use Rattle.order.proofs.RowDates.{rows_early}
 use Rattle.order.proofs.ranges.rows_fit.Goals as goal
@@ -18,7 +18,7 @@ pub returns-then-date : goal.returns-then-date
 returns-then-date c =
     let m = c.before.before.before.before in
     let a = m.args in
-    sym (rows_early a.date (now a.bytes) m.rows_in-rows.result m.most_in-most.result m.rows_in-rows.ensures
+    sym (rows_early a.date a.bytes.now m.rows_in-rows.result m.most_in-most.result m.rows_in-rows.ensures
     m.most_in-most.ensures c.if-date.true c.if-rows-lt1.false c.if-most-rows.false)
 
 pub returns : goal.returns

@@ -1,4 +1,4 @@
-use Rattle.prelude.proofs.Logic.{◌≡◌, sym, ◌∙◌, ◌≤◌, ◌-◌, length, drop, rules, now}
+use Rattle.prelude.proofs.Logic.{◌≡◌, sym, ◌∙◌, ◌≤◌, ◌-◌, length, drop, rules}
 use Rattle.text.specs.Text.{printable}
 use Rattle.order.proofs.Text.{byte_low, byte_high, byte_on, text_end}
 use Rattle.order.proofs.ranges.text_fits.Given as goal

@@ -1,6 +1,6 @@
 -- Invariant: the first tag that fails from here on is the first of all that fails.
 use Rattle.prelude.proofs.Logic.{◌≡◌, refl, sym, ◌∙◌, Bool, true, cond, List, ℕ, ◌-◌, ◌≤◌, arith, ltb, length, drop, get_or, rules, not-true}
-use Rattle.prelude.proofs.Logic.{not-false, now}
+use Rattle.prelude.proofs.Logic.{not-false}
 use Rattle.calendar.specs.declared.dates.Date.{Date}
 use Rattle.fields.specs.Tags.{last_tag}
 use Rattle.fields.specs.declared.values.Fields.{Fields}
@@ -10,6 +10,7 @@ use Rattle.order.specs.Ranges.{fits_in, fits_of, in_range_of}
 use Rattle.order.specs.Reading.{first_failing, tags_from, out_of_range_of}
 use Rattle.order.proofs.Tags.{fails, on, none, tags_from_lem, tags_length}
 use Rattle.order.proofs.reading.out_of_range.Goals as goal
+use Rattle.order.proofs.reading.out_of_range.Goals.{At-loop-passed, decreases-loop, invariant-loop}
 
 -- the list has every tag
 all : length (tags_from last_tag 1) ≡ last_tag
@@ -26,28 +27,28 @@ held : (s : List ℕ) (f : Fields) (date : Date) (ramadan : Bool) → date ≡ d
 unfolding out_of_range_of in_range_of fits_of values_in
 held s f date ramadan d r = rw (d, r) refl
 
-abbrev invariant-loop : goal.invariant-loop
+abbrev invariant-loop : invariant-loop
 invariant-loop order date fields ramadan passed₀ passed =
     (passed ≤ last_tag)
     × (first_failing 5 (passes order fields.at fields.length date ramadan) (drop passed (tags_from last_tag 1))
     ≡ first_failing 5 (passes order fields.at fields.length date ramadan) (tags_from last_tag 1))
 
-abbrev decreases-loop : goal.decreases-loop
+abbrev decreases-loop : decreases-loop
 decreases-loop order date fields ramadan passed₀ passed = last_tag - passed
 
 -- at the loop: whether a tag passes, and what the first tag that does not pass gives
-passing : (c : goal.At-loop-passed invariant-loop decreases-loop) → ℕ → Bool
+passing : (c : At-loop-passed invariant-loop decreases-loop) → ℕ → Bool
 passing c =
     let a = c.args in
-    passes (now a.order) a.t2.at a.t2.length a.date c.has-ramadan.result
+    passes a.order.now a.t2.at a.t2.length a.date c.has-ramadan.result
 
-first : (c : goal.At-loop-passed invariant-loop decreases-loop) → let a = c.args in
-    first_failing 5 (passing c) (drop c.loop-passed.passed (tags_from last_tag 1)) ≡ out_of_range_of (values_in (now a.order) a.t2)
+first : (c : At-loop-passed invariant-loop decreases-loop) → let a = c.args in
+    first_failing 5 (passing c) (drop c.loop-passed.passed (tags_from last_tag 1)) ≡ out_of_range_of (values_in a.order.now a.t2)
 unfolding passing values_in
 first c =
     let a = c.args in
     c.loop-passed.invariant.1
-    ∙ held (now a.order) a.t2 a.date c.has-ramadan.result c.requires c.has-ramadan.ensures
+    ∙ held a.order.now a.t2 a.date c.has-ramadan.result c.requires c.has-ramadan.ensures
 
 returns : goal.returns-then-not-in_range invariant-loop decreases-loop
 unfolding passing

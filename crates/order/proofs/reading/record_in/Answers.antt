@@ -1,5 +1,5 @@
 -- Each field of the record is the result of its call.
-use Rattle.prelude.proofs.Logic.{sym, ◌∙◌, rules, w32, SFits, to_z-of_z, now}
+use Rattle.prelude.proofs.Logic.{sym, ◌∙◌, rules, w32, SFits, to_z-of_z}
 use Rattle.fields.proofs.Collecting.{part_for_lem}
 use Rattle.order.specs.Reading.{order_of}
 use Rattle.order.proofs.reading.record_in.Goals as goal
@@ -15,7 +15,7 @@ returns c =
     let p = d.before.before in
     let a = p.args in
     let clock : SFits w32 k.clock_in.result = search rules in
-    let town = p.part.ensures ∙ part_for_lem (now a.order) a.fields 1 in
+    let town = p.part.ensures ∙ part_for_lem a.order.now a.fields 1 in
     simp (
       c.ramadan_in.ensures,
       to_z-of_z clock,

@@ -5,8 +5,9 @@ use Rattle.hijri.specs.Ramadan.{ramadan_start_of}
 use Rattle.integers.proofs.Ranges.{read_back}
 use Rattle.order.specs.Reading.{wrong_start_of}
 use Rattle.order.proofs.reading.wrong_start.Goals as goal
+use Rattle.order.proofs.reading.wrong_start.Goals.{After-is_ramadan_start}
 
-told : (c : goal.After-is-ramadan-start) → let a = c.args in
+told : (c : After-is_ramadan_start) → let a = c.args in
     c.is_ramadan_start.result ≡ ramadan_start_of (day_number_of a.date) a.ramadan.shift
 told c =
     let day = c.day_number in

@@ -4,8 +4,16 @@ use Rattle.order_numbers.proofs.bytes.up_to.Goals as goal
 
 pub returns-then-n-most : goal.returns-then-n-most
 unfolding up_to
-returns-then-n-most c = (simp (le-leb _ _ c.if-n-most.true), omega arith)
+returns-then-n-most c =
+    record {
+      value = simp (le-leb _ _ c.if-n-most.true);
+      upper_bound = omega arith;
+    }
 
 pub returns : goal.returns
 unfolding up_to
-returns c = (simp (lt-leb _ _ c.if-n-most.false), omega arith)
+returns c =
+    record {
+      value = simp (lt-leb _ _ c.if-n-most.false);
+      upper_bound = omega arith;
+    }

@@ -4,4 +4,8 @@ use Rattle.order_numbers.proofs.put.put_float.Goals as goal
 pub returns : goal.returns
 returns c =
     let put = c.before.before in
-    (omega (arith, put.put_field.ensures.value), rw (← put.float_bytes-bytes.ensures) put.put_field.ensures.line_after)
+    
+    record {
+      value = omega (arith, put.put_field.ensures.value);
+      line_after = rw (← put.float_bytes-bytes.ensures) put.put_field.ensures.line_after;
+    }

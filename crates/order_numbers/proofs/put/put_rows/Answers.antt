@@ -11,11 +11,13 @@ returns-then-rows-le-MOST_IN_BYTE c =
     let rows = put.args.rows in
     let few = put.if-rows-le-MOST_IN_BYTE.true in
     let bytes = simp (le-leb rows 255 (omega arith)) at put.put_byte.ensures.line_after in
-    simp (le-leb rows 250 few) (omega (arith, put.put_byte.ensures.value), bytes)
+    
+    let both = simp (le-leb rows 250 few) (omega (arith, put.put_byte.ensures.value), bytes) in record { value = both.0; line_after = both.1 }
 
 pub returns : goal.returns
 unfolding rows_bytes up_to
 returns c =
     let put = c.before.before in
     let made = put.before.before.before in
-    simp (lt-leb _ _ made.if-rows-le-MOST_IN_BYTE.false, ← made.word_Bytes.ensures) put.put_field.ensures
+    
+    let both = simp (lt-leb _ _ made.if-rows-le-MOST_IN_BYTE.false, ← made.word_Bytes.ensures) put.put_field.ensures in record { value = both.0; line_after = both.1 }

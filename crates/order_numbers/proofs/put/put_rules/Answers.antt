@@ -1,5 +1,5 @@
 -- The fields of tags 15 to 17 follow one another: each put adds its own to those before.
-use Rattle.prelude.proofs.Logic.{rules, arith, w32, SFits, take, now}
+use Rattle.prelude.proofs.Logic.{rules, arith, w32, SFits, take}
 use Rattle.order_numbers.specs.Values.{rule_fields}
 use Rattle.order_numbers.proofs.PutLaws.{bytes_told, laid}
 use Rattle.order_numbers.proofs.put.put_rules.Goals as goal
@@ -11,12 +11,13 @@ returns c =
     let carry = clock.before.before.before.before.before in
     let made = carry.before.before in
     let a = made.args in
-    let f : SFits w32 a.c.clock = search rules in (
-      omega arith,
-      simp (
+    let f : SFits w32 a.c.clock = search rules in 
+    record {
+      value = omega arith;
+      line_after = simp (
         southern.put_byte.ensures.line_after,
         clock.put_field-at.ensures.line_after,
         carry.put_byte-at.ensures.line_after,
         bytes_told a.c.clock _ f made.signed_bytes-minutes.ensures,
-      ) (laid (take a.at (now a.line)) (rule_fields a.c)),
-    )
+      ) (laid (take a.at a.line.now) (rule_fields a.c));
+    }

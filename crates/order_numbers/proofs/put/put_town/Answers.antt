@@ -1,25 +1,30 @@
 -- A town of up to 41 bytes is put as it is. Only the first 41 bytes of a longer one are put.
-use Rattle.prelude.proofs.Logic.{rules, arith, lit≤, take_all, length-take, now}
+use Rattle.prelude.proofs.Logic.{rules, arith, lit≤, take_all, length-take}
 use Rattle.order_numbers.proofs.put.put_town.Goals as goal
 
 pub returns-then-town-le-TOWN_CUT : goal.returns-then-town-le-TOWN_CUT
 returns-then-town-le-TOWN_CUT c =
     let put = c.before.before in
     let few = put.if-town-le-TOWN_CUT.true in
-    let town = now put.args.town in
-    (omega (arith, put.put_field.ensures.value), rw (take_all 41 town few) put.put_field.ensures.line_after)
+    let town = put.args.town.now in
+    
+    record {
+      upper_bound = omega (arith, put.put_field.ensures.value);
+      line_after = rw (take_all 41 town few) put.put_field.ensures.line_after;
+    }
 
 pub slice_bounds-put_field-end : goal.slice_bounds-put_field-end
-slice_bounds-put_field-end c = omega (arith, length-take 41 (now c.args.town), c.if-town-le-TOWN_CUT.false)
+slice_bounds-put_field-end c = omega (arith, length-take 41 c.args.town.now, c.if-town-le-TOWN_CUT.false)
 
 pub put_field-requires-2 : goal.put_field-requires-2
 put_field-requires-2 c =
     let start = c.before.before.before.before.before in
-    (start.requires, omega (arith, length-take 41 (now start.args.town)), lit≤ tt)
+    (start.requires, omega (arith, length-take 41 start.args.town.now), lit≤ tt)
 
 pub returns : goal.returns
 returns c =
-    let put = c.before.before in (
-      omega (arith, put.put_field-2.ensures.value, length-take 41 (now put.args.town)),
-      put.put_field-2.ensures.line_after,
-    )
+    let put = c.before.before in 
+    record {
+      upper_bound = omega (arith, put.put_field-2.ensures.value, length-take 41 put.args.town.now);
+      line_after = put.put_field-2.ensures.line_after;
+    }

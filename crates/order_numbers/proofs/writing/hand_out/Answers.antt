@@ -1,5 +1,5 @@
 -- The result of reading decides first, then the buffer's room.
-use Rattle.prelude.proofs.Logic.{rules, refl, sym, ap, ◌∙◌, [], arith, length, le-leb, lt-leb, now}
+use Rattle.prelude.proofs.Logic.{rules, refl, sym, ap, ◌∙◌, [], arith, length, le-leb, lt-leb}
 use Rattle.text.proofs.TextLaws.{put_front}
 use Rattle.order_numbers.specs.Writing.{refused_of, call_in}
 use Rattle.order_numbers.proofs.writing.hand_out.Goals as goal
@@ -11,15 +11,17 @@ returns-then-text-buffer c =
     let told = tested.before in
     let read = told.before.before in
     let a = read.args in
-    let short = lt-leb (length (now a.text)) (length (now a.buffer)) tested.if-text-buffer.true in
+    let short = lt-leb (length a.text.now) (length a.buffer.now) tested.if-text-buffer.true in
     let why = c.refuse-then-text-buffer.ensures ∙ ap refused_of c.new.ensures in
-    simp (sym read.read.ensures ∙ told.in-Read.is, short) (why, refl)
+    
+    let both = simp (sym read.read.ensures ∙ told.in-Read.is, short) (why, refl) in record { value = both.0; buffer_after = both.1 }
 
 pub returns-in-Refused : goal.returns-in-Refused
 unfolding call_in
 returns-in-Refused c =
     let told = c.before.before in
-    simp (sym told.read.ensures ∙ told.in-Refused.is) (c.refuse.ensures, refl)
+    
+    let both = simp (sym told.read.ensures ∙ told.in-Refused.is) (c.refuse.ensures, refl) in record { value = both.0; buffer_after = both.1 }
 
 pub returns-else-text-buffer : goal.returns-else-text-buffer
 unfolding call_in
@@ -30,8 +32,9 @@ returns-else-text-buffer c =
     let read = told.before.before in
     let a = read.args in
     let fits = tested.if-text-buffer.false in
-    let room = le-leb (length (now a.text)) (length (now a.buffer)) fits in
+    let room = le-leb (length a.text.now) (length a.buffer.now) fits in
     let none = c.none.ensures in
-    let copied = put.put.ensures ∙ put_front [] (now a.text) (now a.buffer) (omega arith) in
-    simp (sym read.read.ensures ∙ told.in-Read.is, room)
-    (λ i. record { refusal = none i; length = length (now a.text) }, copied)
+    let copied = put.put.ensures ∙ put_front [] a.text.now a.buffer.now (omega arith) in
+    
+    let both = simp (sym read.read.ensures ∙ told.in-Read.is, room)
+    (λ i. record { refusal = none i; length = length a.text.now }, copied) in record { value = both.0; buffer_after = both.1 }

@@ -5,13 +5,16 @@ use Rattle.pages.proofs.AnswerLaws.{called-short, called-read, called-refused}
 use Rattle.pages.proofs.page.write_page.Goals as goal
 
 pub returns-then-scratch-lt-ROW_CELLS : goal.returns-then-scratch-lt-ROW_CELLS
-returns-then-scratch-lt-ROW_CELLS c = called-short _ _ _ _ c.if-scratch-lt-ROW_CELLS.true _ _ c.new.ensures c.refused.ensures
+returns-then-scratch-lt-ROW_CELLS c =
+    let both = called-short _ _ _ _ c.if-scratch-lt-ROW_CELLS.true _ _ c.new.ensures c.refused.ensures in record { value = both.0; scratch_after = both.1 }
 
 pub write_read-requires : goal.write_read-requires
 write_read-requires c = search (taken, rules)
 
 pub returns-in-Read : goal.returns-in-Read
-returns-in-Read c = called-read _ _ _ _ (search rules) _ (search returned) _ _ c.write_read.ensures
+returns-in-Read c =
+    let both = called-read _ _ _ _ (search rules) _ (search returned) _ _ c.write_read.ensures in record { value = both.0; scratch_after = both.1 }
 
 pub returns-in-Refused : goal.returns-in-Refused
-returns-in-Refused c = called-refused _ _ _ _ (search rules) _ (search returned) _ c.refused-in-Refused.ensures
+returns-in-Refused c =
+    let both = called-refused _ _ _ _ (search rules) _ (search returned) _ c.refused-in-Refused.ensures in record { value = both.0; scratch_after = both.1 }

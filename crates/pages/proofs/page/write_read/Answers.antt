@@ -1,14 +1,15 @@
 -- Two ends: 5 if the page lacks the row; else the rows that fit are written, from row `first` on.
-use Rattle.prelude.proofs.Logic.{◌≡◌, sym, ap, ◌∙◌, ◌+◌, ◌-◌, ◌*◌, ◌/◌, arith, length, rules, now}
+use Rattle.prelude.proofs.Logic.{◌≡◌, sym, ap, ◌∙◌, ◌+◌, ◌-◌, ◌*◌, ◌/◌, arith, length, rules}
 use Rattle.pages.specs.Answers.{piece_in}
 use Rattle.pages.proofs.AnswerLaws.{rows_refused, rows_answered}
 use Rattle.pages.proofs.PageLaws.{Written, piece-none, piece-written}
 use Rattle.pages.proofs.RowsLaws.{rows-length}
 use Rattle.pages.proofs.page.write_read.Goals as goal
+use Rattle.pages.proofs.page.write_read.Goals.{After-rows_that_fit-taken}
 
 -- what is written if the page has the row
-piece-holds : (c : goal.After-rows-that-fit) → let a = c.args in
-    Written a.order a.page a.first (length (now a.scratch) / 39) c.rows_that_fit-taken.result
+piece-holds : (c : After-rows_that_fit-taken) → let a = c.args in
+    Written a.order a.page a.first (length a.scratch.now / 39) c.rows_that_fit-taken.result
 piece-holds c =
     piece-written _ _ _ _ _ _ c.rows_on-count.ensures c.if-first-count.false
     (omega (arith, c.requires.1)) c.rows_that_fit-taken.ensures
@@ -16,9 +17,10 @@ piece-holds c =
 pub returns-then-first-count : goal.returns-then-first-count
 returns-then-first-count c =
     let a = c.args in
-    let none = piece-none a.order a.page a.first (length (now a.scratch) / 39)
+    let none = piece-none a.order a.page a.first (length a.scratch.now / 39)
     (omega (arith, c.rows_on-count.ensures, c.if-first-count.true)) in
-    rows_refused _ _ _ _ none c.lacks_row.ensures c.refused.ensures
+    
+    let both = rows_refused _ _ _ _ none c.lacks_row.ensures c.refused.ensures in record { value = both.0; scratch_after = both.1 }
 
 pub overflow_sub-page : goal.overflow_sub-page
 overflow_sub-page c = (piece-holds c).from
@@ -40,7 +42,8 @@ returns c =
     let a = c.args in
     let w = piece-holds c.before.before.before.before in
     let taken = c.rows_that_fit-taken.result in
-    let asked = piece_in a.page a.first (now a.scratch) a.order in
+    let asked = piece_in a.page a.first a.scratch.now a.order in
     let l : taken ≡ length asked = sym (rows-length a.order (25 * (a.page - 1) + a.first) taken) ∙ ap length w.rows in
     let put = c.write_rows.ensures in
-    rows_answered _ asked _ _ _ (omega (arith, w.some)) w.rows put.0 put.1
+    
+    let both = rows_answered _ asked _ _ _ (omega (arith, w.some)) w.rows put.0 put.1 in record { value = both.0; scratch_after = both.1 }

@@ -5,14 +5,16 @@ use Rattle.reports.proofs.ReportsLaws.{returned, taken, report-read, report-refu
 use Rattle.pages.proofs.report.write_pages.Goals as goal
 
 pub returns-then-buffer-lt-CELLS_BYTES : goal.returns-then-buffer-lt-CELLS_BYTES
-returns-then-buffer-lt-CELLS_BYTES c = printed-short _ _ _ c.if-buffer-lt-CELLS_BYTES.true
+returns-then-buffer-lt-CELLS_BYTES c =
+    let both = printed-short _ _ _ c.if-buffer-lt-CELLS_BYTES.true in record { value = both.0; buffer_after = both.1 }
 
 pub put_pages-requires : goal.put_pages-requires
 put_pages-requires c = search (taken, rules)
 
 pub returns-in-Read : goal.returns-in-Read
-returns-in-Read c = report-read _ _ _ _ (search rules) _ _ _ (search returned) c.put_pages.ensures
+returns-in-Read c =
+    let both = report-read _ _ _ _ (search rules) _ _ _ (search returned) c.put_pages.ensures in record { value = both.0; buffer_after = both.1 }
 
 pub returns-in-Refused : goal.returns-in-Refused
 returns-in-Refused c =
-    report-refused _ _ _ _ (search rules) _ _ (lit≤ tt) _ (search returned) c.put_refused_order.ensures
+    let both = report-refused _ _ _ _ (search rules) _ _ (lit≤ tt) _ (search returned) c.put_refused_order.ensures in record { value = both.0; buffer_after = both.1 }

@@ -1,21 +1,22 @@
 -- A refused order and a read one, each by the law of every report; a buffer that is too short stays.
-use Rattle.prelude.proofs.Logic.{lit≤, rules, now}
+use Rattle.prelude.proofs.Logic.{lit≤, rules}
 use Rattle.text.proofs.PrintedLaws.{printed-short}
 use Rattle.reports.proofs.ReportsLaws.{returned, taken, report-read, report-refused}
 use Rattle.pages.specs.Reports.{longest_wear}
 use Rattle.pages.proofs.report.write_wear.Goals as goal
 
 pub returns-then-buffer-lt-WEAR_BYTES : goal.returns-then-buffer-lt-WEAR_BYTES
-returns-then-buffer-lt-WEAR_BYTES c = printed-short longest_wear _ (now c.args.buffer) c.if-buffer-lt-WEAR_BYTES.true
+returns-then-buffer-lt-WEAR_BYTES c =
+    let both = printed-short longest_wear _ c.args.buffer.now c.if-buffer-lt-WEAR_BYTES.true in record { value = both.0; buffer_after = both.1 }
 
 pub all_dots-requires : goal.all_dots-requires
 all_dots-requires c = search (taken, rules)
 
 pub returns-in-Read : goal.returns-in-Read
 returns-in-Read c =
-    report-read _ _ _ _ (search rules) _ _ _ (search returned)
-    (rw c.all_dots.ensures at c.put_total.ensures)
+    let both = report-read _ _ _ _ (search rules) _ _ _ (search returned)
+    (rw c.all_dots.ensures at c.put_total.ensures) in record { value = both.0; buffer_after = both.1 }
 
 pub returns-in-Refused : goal.returns-in-Refused
 returns-in-Refused c =
-    report-refused _ _ _ _ (search rules) _ _ (lit≤ tt) _ (search returned) c.put_refused_order.ensures
+    let both = report-refused _ _ _ _ (search rules) _ _ (lit≤ tt) _ (search returned) c.put_refused_order.ensures in record { value = both.0; buffer_after = both.1 }

@@ -1,5 +1,5 @@
 -- Invariant: the suns are the row's, and the dots of the earlier rows are counted. These rows are in the buffer if it has room for all.
-use Rattle.prelude.proofs.Logic.{◌≡◌, refl, ap, ◌∙◌, ◌+◌, ◌-◌, ◌<◌, arith, rules, w32, now}
+use Rattle.prelude.proofs.Logic.{◌≡◌, refl, ap, ◌∙◌, ◌+◌, ◌-◌, ◌<◌, arith, rules, w32}
 use Rattle.braille.specs.Cells.{row_cells}
 use Rattle.calendar.specs.declared.dates.Date.{Date}
 use Rattle.days.proofs.RowStates.{next-state}
@@ -7,16 +7,17 @@ use Rattle.integers.proofs.Ranges.{read}
 use Rattle.schedule.specs.{RowSuns.rowSunsOf, RowSuns.nextRowSunsOf, declared.prayer_times.Worked.Worked}
 use Rattle.pages.proofs.Rolled.{clock_fits_lem, Run, Behind, done_none, run_row}
 use Rattle.pages.proofs.rows.put_rows.Goals as goal
+use Rattle.pages.proofs.rows.put_rows.Goals.{After-put_cells-dots, At-loop-next}
 
 -- an order has few rows, so every number here fits
-few : (c : goal.At-loop-next) → c.loop-next.next < 400
+few : (c : At-loop-next) → c.loop-next.next < 400
 few c = let p = c.requires in omega (arith, c.loop-next.invariant.within, p.2, p.0.rows.1)
 
 -- after the row that is put
-row-holds : (c : goal.After-put-cells)
+row-holds : (c : After-put_cells-dots)
     → let a = c.args in
     let l = c.loop-next in
-    Behind a.order a.row a.end (now a.buffer) (l.next + 1) c.put_cells-dots.last.0 (l.dots + c.put_cells-dots.result)
+    Behind a.order a.row a.end a.buffer.now (l.next + 1) c.put_cells-dots.new.0 (l.dots + c.put_cells-dots.result)
 row-holds c =
     let t = c.before.before.before.before.before.before.before.before.before.before in
     let l = c.loop-next in
@@ -24,8 +25,8 @@ row-holds c =
     let p = t.requires in
     let put = c.put_cells-dots in
     let k = read w32 o.clock (clock_fits_lem o p.0) in
-    run_row o t.args.row t.args.end p.0 p.2 (now t.args.buffer) l.buffer l.suns l.next l.dots l.invariant
-    _ put.last.0 put.result _
+    run_row o t.args.row t.args.end p.0 p.2 t.args.buffer.now l.buffer l.suns l.next l.dots l.invariant
+    _ put.new.0 put.result _
     (ap (λ (w : Worked). row_cells l.suns.date w o.clock) c.since_midnight-worked.ensures.0)
     (rw k at put.ensures.value) refl
     (rw k at put.ensures.buffer_after)
@@ -34,7 +35,7 @@ pub loop-next-init : goal.loop-next-init
 loop-next-init c =
     let t = c.before.before.before.before.before in
     let o = t.args.order in
-    let n = done_none o t.args.row (now t.args.buffer) in
+    let n = done_none o t.args.row t.args.buffer.now in
     record {
       from = omega arith;
       within = t.requires.1;
@@ -68,7 +69,11 @@ returns-then-next-end c =
     let m = row-holds c.before.before.before in
     let t = c.before.before.before.before.before.before.before.before.before.before.before.before.before in
     let e : l.next + 1 ≡ t.args.end = omega (arith, c.if-next-end.true, l.invariant.within) in
-    (rw e at m.1, λ room. rw e at (m.0 room))
+    
+    record {
+      value = rw e at m.1;
+      buffer_after = λ room. rw e at (m.0 room);
+    }
 
 pub loop-next-smaller : goal.loop-next-smaller
 loop-next-smaller c = omega (arith, c.loop-next.invariant.within)

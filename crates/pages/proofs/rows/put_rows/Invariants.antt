@@ -1,4 +1,4 @@
-use Rattle.prelude.proofs.Logic.{◌≡◌, refl, ap, ◌∙◌, ◌+◌, ◌-◌, ◌<◌, arith, rules, w32, now}
+use Rattle.prelude.proofs.Logic.{◌≡◌, refl, ap, ◌∙◌, ◌+◌, ◌-◌, ◌<◌, arith, rules, w32}
 use Rattle.braille.specs.Cells.{row_cells}
 use Rattle.calendar.specs.declared.dates.Date.{Date}
 use Rattle.days.proofs.RowStates.{next-state}

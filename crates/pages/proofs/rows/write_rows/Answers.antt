@@ -1,4 +1,4 @@
-use Rattle.prelude.proofs.Logic.{arith, rules, now}
+use Rattle.prelude.proofs.Logic.{arith, rules}
 use Rattle.pages.proofs.AnswerLaws.{rows_counted}
 use Rattle.pages.proofs.rows.write_rows.Goals as goal
 
@@ -7,4 +7,5 @@ returns c =
     let start = c.before.before.before.before.before.before in
     let a = start.args in
     let put = c.put_rows-dots.ensures in
-    rows_counted a.order a.row a.count _ _ (now a.buffer) _ c.none.ensures put.0 (put.1 (omega (arith, start.requires.3)))
+    
+    let both = rows_counted a.order a.row a.count _ _ a.buffer.now _ c.none.ensures put.0 (put.1 (omega (arith, start.requires.3))) in record { value = both.0; buffer_after = both.1 }

@@ -1,8 +1,9 @@
 use Rattle.prelude.proofs.Logic.{rules, w32, SFits, to_z-of_z}
 use Rattle.probes.specs.Days.{parameters_from}
 use Rattle.probes.proofs.worked.parameters.Goals as goal
+use Rattle.probes.proofs.worked.parameters.Goals.{Start}
 
-interval : (t : goal.Start) → SFits w32 t.args.s.isha_interval
+interval : (t : Start) → SFits w32 t.args.s.isha_interval
 interval t = search rules
 
 pub returns : goal.returns

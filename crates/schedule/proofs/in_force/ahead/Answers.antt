@@ -2,8 +2,9 @@ use Rattle.prelude.proofs.Logic.{◌≡◌, ap, ◌∙◌, arith, ◌-ℤ◌, ru
 use Rattle.integers.proofs.Integers.{differences, read, P}
 use Rattle.schedule.proofs.Due as due
 use Rattle.schedule.proofs.in_force.ahead.Goals as goal
+use Rattle.schedule.proofs.in_force.ahead.Goals.{After-between-whole}
 
-told : (c : goal.After-between-whole) → let a = c.args in c.between-whole.result ≡ P (a.time -ℤ a.instant.seconds)
+told : (c : After-between-whole) → let a = c.args in c.between-whole.result ≡ P (a.time -ℤ a.instant.seconds)
 told c =
     let t = c.before.before in
     let f : SFits w64 t.args.instant.seconds = search rules in

@@ -3,9 +3,10 @@ use Rattle.prelude.proofs.Logic.{◌≡◌, ap, ◌∙◌, arith, w64}
 use Rattle.integers.proofs.Integers.{read, P, N}
 use Rattle.schedule.proofs.Due as due
 use Rattle.schedule.proofs.in_force.between.Goals as goal
+use Rattle.schedule.proofs.in_force.between.Goals.{After-below-2}
 
 -- the four parts that are worked
-parts : (c : goal.After-below-2) → let a = c.args in
+parts : (c : After-below-2) → let a = c.args in
     (c.above.result ≡ P a.time) × (c.below.result ≡ N a.seconds)
     × (c.above-2.result ≡ P a.seconds) × (c.below-2.result ≡ N a.time)
 parts c =

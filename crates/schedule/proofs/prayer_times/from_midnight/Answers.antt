@@ -4,18 +4,19 @@ use Rattle.integers.proofs.Integers.{wide, read_wide, of_wide, held_as, asked}
 use Rattle.models.specs.declared.prayer.Prayer.TheVariants.{Fajr, Sunrise, Dhuhr, Asr, Maghrib, Isha}
 use Rattle.schedule.proofs.Schedule.{final_of, middle_of_the_night_of, qiyam_of, from_midnight_of, or_of, both, of_near}
 use Rattle.schedule.proofs.prayer_times.from_midnight.Goals as goal
+use Rattle.schedule.proofs.prayer_times.from_midnight.Goals.{After-unadjusted_fajr-fajr, Start}
 
-transit : (t : goal.Start) → SFits w32 t.args.suns.today.transit
+transit : (t : Start) → SFits w32 t.args.suns.today.transit
 transit t = search rules
 
-sunrise : (t : goal.Start) → SFits w32 t.args.suns.today.sunrise
+sunrise : (t : Start) → SFits w32 t.args.suns.today.sunrise
 sunrise t = search rules
 
-sunset : (t : goal.Start) → SFits w32 t.args.suns.today.sunset
+sunset : (t : Start) → SFits w32 t.args.suns.today.sunset
 sunset t = search rules
 
 -- the start, which has the arguments, from the state after the first call
-abbrev start : goal.After-unadjusted-fajr → goal.Start
+abbrev start : After-unadjusted_fajr-fajr → Start
 start c = c.before.before.before.before.before.before.before.before.before
 
 pub overflow_cast-sunrise : goal.overflow_cast-sunrise

@@ -4,9 +4,10 @@ use Rattle.integers.proofs.Integers.{read_back, Held, held_fits, stored, promise
 use Rattle.calendar.specs.Days.{day_number_of}
 use Rattle.schedule.proofs.Schedule.{start_of, start_near}
 use Rattle.schedule.proofs.prayer_times.start.Goals as goal
+use Rattle.schedule.proofs.prayer_times.start.Goals.{After-day_number}
 
 -- the product, as it is worked
-product : (c : goal.After-day-number)
+product : (c : After-day_number)
     → Held (2 ^ 58) (read_back w64 c.day_number.result *ℤ pos 86400) (day_number_of c.args.date *ℤ pos 86400)
 product c =
     let y : c.args.date.year < 2 ^ 32 = search rules in

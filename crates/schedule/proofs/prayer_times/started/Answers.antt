@@ -3,8 +3,9 @@ use Rattle.prelude.proofs.Logic.{◌^◌, lit≤, ℤ, ◌+ℤ◌, rules, w64, S
 use Rattle.integers.proofs.Integers.{Near, read_back, held_fits, stored}
 use Rattle.schedule.proofs.Schedule.{started_of, on_start}
 use Rattle.schedule.proofs.prayer_times.started.Goals as goal
+use Rattle.schedule.proofs.prayer_times.started.Goals.{After-start-start}
 
-fits : (s : goal.After-start-start) {x : ℤ} → Near (2 ^ 43) x → SFits w64 (read_back w64 s.start-start.result +ℤ read_back w64 x)
+fits : (s : After-start-start) {x : ℤ} → Near (2 ^ 43) x → SFits w64 (read_back w64 s.start-start.result +ℤ read_back w64 x)
 fits s h = held_fits (on_start s.start-start.ensures h) (lit≤ tt)
 
 pub overflow_add-result : goal.overflow_add-result

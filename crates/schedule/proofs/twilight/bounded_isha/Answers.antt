@@ -4,12 +4,13 @@ use Rattle.integers.proofs.Integers.{read_back, wide, Held, of_wide, held_sum, h
 use Rattle.night_portions.specs.Portions.{seventh_of}
 use Rattle.schedule.proofs.Schedule.{night_of, earlier_of, own_of, isha_bound_of, bounded_isha_of, both, of_near, held_seventh}
 use Rattle.schedule.proofs.twilight.bounded_isha.Goals as goal
+use Rattle.schedule.proofs.twilight.bounded_isha.Goals.{After-seventh, Start}
 
-sunset : (t : goal.Start) → SFits w32 t.args.today.sunset
+sunset : (t : Start) → SFits w32 t.args.today.sunset
 sunset t = search rules
 
 -- the time by a seventh of the night, as it is worked
-by-night : (c : goal.After-seventh) → let a = c.args in
+by-night : (c : After-seventh) → let a = c.args in
     Held (2 ^ 31 + 2 ^ 33) (read_back w64 (read_back w32 a.today.sunset) +ℤ read_back w64 c.seventh.result)
     (a.today.sunset +ℤ seventh_of (night_of a.today a.next))
 by-night c =

@@ -2,8 +2,9 @@ use Rattle.prelude.proofs.Logic.{ap, lit≤, w64, ◌^◌}
 use Rattle.integers.proofs.Integers.{Held, read_back, read, wide, of_wide, held_as, held_sum, held_fits, stored, promised}
 use Rattle.schedule.proofs.Schedule.{short_of, of_near}
 use Rattle.schedule.proofs.twilight.moved.Goals as goal
+use Rattle.schedule.proofs.twilight.moved.Goals.{After-short}
 
-shortened : (c : goal.After-short) → Held (2 ^ 31) (read_back w64 c.short.result) (short_of c.args.seconds)
+shortened : (c : After-short) → Held (2 ^ 31) (read_back w64 c.short.result) (short_of c.args.seconds)
 shortened c = let t = c.before in
     held_as (of_near c.short.ensures (lit≤ tt)) (ap short_of (read w64 t.args.seconds t.ranges.seconds))
 

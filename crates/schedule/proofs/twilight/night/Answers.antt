@@ -3,19 +3,20 @@ use Rattle.prelude.proofs.Logic.{◌+◌, ◌^◌, lit≤, pos, ◌+ℤ◌, ◌-
 use Rattle.integers.proofs.Integers.{read_back, wide, Held, constant, of_wide, held_sum, held_difference, held_fits, stored, promised}
 use Rattle.schedule.specs.Twilight.{night_of}
 use Rattle.schedule.proofs.twilight.night.Goals as goal
+use Rattle.schedule.proofs.twilight.night.Goals.{Start}
 
-sunrise : (t : goal.Start) → SFits w32 t.args.next.sunrise
+sunrise : (t : Start) → SFits w32 t.args.next.sunrise
 sunrise t = search rules
 
-sunset : (t : goal.Start) → SFits w32 t.args.today.sunset
+sunset : (t : Start) → SFits w32 t.args.today.sunset
 sunset t = search rules
 
 -- tomorrow's sunrise from 0h of today, then the night from sunset to it
-next-day : (t : goal.Start) → Held (2 ^ 31 + 86400) (read_back w64 (read_back w32 t.args.next.sunrise) +ℤ pos 86400)
+next-day : (t : Start) → Held (2 ^ 31 + 86400) (read_back w64 (read_back w32 t.args.next.sunrise) +ℤ pos 86400)
     (t.args.next.sunrise +ℤ pos 86400)
 next-day t = held_sum (of_wide _ (sunrise t)) (constant 86400)
 
-from-sunset : (t : goal.Start)
+from-sunset : (t : Start)
     → Held (2 ^ 31 + 86400 + 2 ^ 31)
     (read_back w64 (read_back w64 (read_back w32 t.args.next.sunrise) +ℤ pos 86400) -ℤ read_back w64
     (read_back w32 t.args.today.sunset))

@@ -1,28 +1,29 @@
 -- The row of the table, cut at its text's end, is the text; a text that ends in a colon is followed by the tag's name.
-use Rattle.prelude.proofs.Logic.{◌≡◌, sym, ap, ◌∙◌, arith, length, rules, not-true, not-false, now}
+use Rattle.prelude.proofs.Logic.{◌≡◌, sym, ap, ◌∙◌, arith, length, rules, not-true, not-false}
 use Rattle.text.specs.Text.{front_of}
 use Rattle.sentences.specs.{Table.text_of, Table.name_of, Sentences.endsInColon}
 use Rattle.sentences.proofs.Lines.{text_fine}
 use Rattle.sentences.proofs.Making.{Cut, cut_text, cut_name, first_put, words_of_text, words_of_both}
 use Rattle.sentences.proofs.line.put_words.Goals as goal
+use Rattle.sentences.proofs.line.put_words.Goals.{After-end_of-end, After-end_of-length, After-ends_in_colon, After-put}
 
 -- the text and the name, cut from their rows
-text : (c : goal.After-end-of) → Cut (text_of c.args.number) c.text_row-text.result c.end_of-end.result
+text : (c : After-end_of-end) → Cut (text_of c.args.number) c.text_row-text.result c.end_of-end.result
 text c = cut_text c.args.number c.text_row-text.result _ c.text_row-text.ensures c.end_of-end.ensures
 
-name : (c : goal.After-end-of2) → let place = c.args.place in
+name : (c : After-end_of-length) → let place = c.args.place in
     Cut (name_of place) c.name_row-name.result c.end_of-length.result
 name c = cut_name _ c.name_row-name.result c.end_of-length.result c.name_row-name.ensures c.end_of-length.ensures
 
 -- the line with the text at its front, and whether the text ends in a colon
-first : (c : goal.After-put) → let a = c.args in
-    c.put.last.0 ≡ front_of (text_of a.number) (now a.line)
+first : (c : After-put) → let a = c.args in
+    c.put.new.0 ≡ front_of (text_of a.number) a.line.now
 first c =
     let at-end = c.before.before.before in let a = at-end.args in let p = c.put in
-    let long : length (now a.line) ≡ 100 = search rules in
-    first_put (now a.line) p.last.0 (text_of a.number) (text_fine _).short long (rw (text at-end).text-1 at p.ensures)
+    let long : length a.line.now ≡ 100 = search rules in
+    first_put a.line.now p.new.0 (text_of a.number) (text_fine _).short long (rw (text at-end).text-1 at p.ensures)
 
-colon : (c : goal.After-ends-in-colon) → let a = c.args in
+colon : (c : After-ends_in_colon) → let a = c.args in
     endsInColon (text_of a.number) ≡ c.ends_in_colon.result
 colon c = sym (ap endsInColon (text c.before.before.before.before).text-1) ∙ sym c.ends_in_colon.ensures
 
@@ -39,8 +40,12 @@ pub returns-then-not-ends_in_colon : goal.returns-then-not-ends_in_colon
 returns-then-not-ends_in_colon c =
     let at-put = c.before.before in let at-end = at-put.before.before.before in let a = at-end.args in
     let e = colon c.before ∙ not-true _ c.if-not-ends_in_colon.true in
-    let w = words_of_text a.number _ _ at-put.put.last.0 e (first at-put) in
-    ((text at-end).ends ∙ w.0, w.1)
+    let w = words_of_text a.number _ _ at-put.put.new.0 e (first at-put) in
+    
+    record {
+      value = (text at-end).ends ∙ w.0;
+      line_after = w.1;
+    }
 
 pub slice_bounds-name-end : goal.slice_bounds-name-end
 slice_bounds-name-end c = let m = name c.before in omega arith
@@ -59,7 +64,11 @@ returns c =
     let at-end = at-put.before.before.before in let a = at-end.args in
     let t = text at-end in let m = name at_name in
     let e = colon at-if.before ∙ not-false _ at-if.if-not-ends_in_colon.false in
-    let long : length (now a.line) ≡ 100 = search rules in
-    let w = words_of_both _ _ _ at-put.put.last.0 c.put-2.last.0 e long (first at-put)
+    let long : length a.line.now ≡ 100 = search rules in
+    let w = words_of_both _ _ _ at-put.put.new.0 c.put-2.new.0 e long (first at-put)
     (rw (m.text, t.ends) at c.put-2.ensures) in
-    (omega arith, w.1)
+    
+    record {
+      value = omega arith;
+      line_after = w.1;
+    }

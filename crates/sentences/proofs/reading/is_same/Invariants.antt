@@ -1,4 +1,4 @@
-use Rattle.prelude.proofs.Logic.{◌≡◌, refl, sym, ◌∙◌, ◌-◌, ◌≤◌, arith, length, drop, rules, now}
+use Rattle.prelude.proofs.Logic.{◌≡◌, refl, sym, ◌∙◌, ◌-◌, ◌≤◌, arith, length, drop, rules}
 use Rattle.sentences.specs.Sentences.{same}
 use Rattle.sentences.proofs.Comparing.{longer_differs, same_next, same_differs, same_ends}
 use Rattle.sentences.proofs.reading.is_same.Given as goal

@@ -1,31 +1,32 @@
 -- The sentence of the number and place that are found is compared whole (`Guessing`). If it is the bytes, they say it; else nothing.
-use Rattle.prelude.proofs.Logic.{◌≡◌, refl, sym, ap, ◌∙◌, List, ℕ, arith, length, rules, not-true, not-false, now}
+use Rattle.prelude.proofs.Logic.{◌≡◌, refl, sym, ap, ◌∙◌, List, ℕ, arith, length, rules, not-true, not-false}
 use Rattle.sentences.specs.Sentences.{sentence_of, same}
 use Rattle.sentences.proofs.Making.{known_by_sentence, unknown_by_sentence, Line, line_of, reads-no-place, reads-unknown}
 use Rattle.sentences.proofs.Making.{reads_other, reads-it}
 use Rattle.sentences.proofs.sentence.read_sentence.Goals as goal
+use Rattle.sentences.proofs.sentence.read_sentence.Goals.{After-is_same, After-put_sentence-end}
 
 -- the sentence that is guessed, at the front of its line
-line : (c : goal.After-put-sentence) → let at_place = c.before.before.before in
-    Line at_place.number_in-number.result at_place.IsPlace-in.result c.put_sentence-end.result c.put_sentence-end.last.0
+line : (c : After-put_sentence-end) → let at_place = c.before.before.before in
+    Line at_place.number_in-number.result at_place.IsPlace-in.result c.put_sentence-end.result c.put_sentence-end.new.0
 line c =
     let s = c.put_sentence-end in let at_place = c.before.before.before in
-    line_of _ s.last.0 at_place.number_in-number.result at_place.IsPlace-in.result s.result s.ensures.value s.ensures.line_after
+    line_of _ s.new.0 at_place.number_in-number.result at_place.IsPlace-in.result s.result s.ensures.value s.ensures.line_after
     refl c.if-place-ge-NONE.false
 
 -- whether the sentence is the bytes, as it is tested
-compared : (c : goal.After-is-same) → let at_place = c.before.before.before.before.before.before in
+compared : (c : After-is_same) → let at_place = c.before.before.before.before.before.before in
     same (sentence_of at_place.number_in-number.result at_place.IsPlace-in.result)
-    (now at_place.args.bytes) ≡ c.is_same.result
+    at_place.args.bytes.now ≡ c.is_same.result
 compared c =
-    let at-put = c.before.before.before in let bytes = now at-put.args.bytes in
+    let at-put = c.before.before.before in let bytes = at-put.args.bytes.now in
     sym (ap (λ (t : List ℕ). same t bytes) (line at-put).text) ∙ sym c.is_same.ensures
 
 pub returns-then-place-ge-NONE : goal.returns-then-place-ge-NONE
 returns-then-place-ge-NONE c =
     let at_place = c.before.before in let n = at_place.number_in-number in
     let p = at_place.IsPlace-in in
-    c.no_sentence.ensures ∙ reads-no-place (now at_place.args.bytes) n.result p.result
+    c.no_sentence.ensures ∙ reads-no-place at_place.args.bytes.now n.result p.result
     n.ensures p.ensures c.if-place-ge-NONE.true
 
 pub returns-then-end-eq0 : goal.returns-then-end-eq0

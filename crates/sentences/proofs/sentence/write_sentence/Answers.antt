@@ -1,30 +1,39 @@
 -- Three ends: an unknown number, no room, or the sentence at the front and the other bytes as they were.
-use Rattle.prelude.proofs.Logic.{refl, sym, ap, subst, ◌∙◌, ℕ, ◌<◌, arith, length, rules, now}
+use Rattle.prelude.proofs.Logic.{refl, sym, ap, subst, ◌∙◌, ℕ, ◌<◌, arith, length, rules}
 use Rattle.sentences.specs.{Guess.none, Sentences.SentenceCall}
 use Rattle.sentences.proofs.Making.{known_by_sentence, unknown_by_sentence, Line, line_of, writes, writes_unknown, writes_no_room}
 use Rattle.sentences.proofs.sentence.write_sentence.Goals as goal
+use Rattle.sentences.proofs.sentence.write_sentence.Goals.{After-put_sentence-length}
 
 -- the sentence at the front of its line
-line : (c : goal.After-put-sentence) → let a = c.args in
-    Line a.number a.place c.put_sentence-length.result c.put_sentence-length.last.0
+line : (c : After-put_sentence-length) → let a = c.args in
+    Line a.number a.place c.put_sentence-length.result c.put_sentence-length.new.0
 line c =
     let a = c.args in let s = c.put_sentence-length in let h : a.place < none = search rules in
-    line_of _ s.last.0 a.number a.place s.result s.ensures.value s.ensures.line_after refl h
+    line_of _ s.new.0 a.number a.place s.result s.ensures.value s.ensures.line_after refl h
 
 pub returns-then-length-eq0 : goal.returns-then-length-eq0
 returns-then-length-eq0 c =
     let at-put = c.before.before in let a = at-put.args in
     let k = unknown_by_sentence a.number a.place (sym at-put.put_sentence-length.ensures.value ∙ c.if-length-eq0.true) in
-    let w = sym (writes_unknown a.number a.place (now a.buffer) k) in
-    (c.refuse.ensures ∙ ap (λ (call : SentenceCall). call.answer) w, ap (λ (call : SentenceCall). call.buffer) w)
+    let w = sym (writes_unknown a.number a.place a.buffer.now k) in
+    
+    record {
+      value = c.refuse.ensures ∙ ap (λ (call : SentenceCall). call.answer) w;
+      buffer_after = ap (λ (call : SentenceCall). call.buffer) w;
+    }
 
 pub returns-then-length-buffer : goal.returns-then-length-buffer
 returns-then-length-buffer c =
     let at-put = c.before.before.before in let a = at-put.args in let e = at-put.put_sentence-length.ensures.value in
     let k = known_by_sentence a.number a.place (λ z. c.if-length-eq0.false (e ∙ z)) in
-    let over = subst (λ (m : ℕ). length (now a.buffer) < m) e c.if-length-buffer.true in
-    let w = sym (writes_no_room a.number a.place (now a.buffer) k over) in
-    (c.refuse-then-length-buffer.ensures ∙ ap (λ (call : SentenceCall). call.answer) w, ap (λ (call : SentenceCall). call.buffer) w)
+    let over = subst (λ (m : ℕ). length a.buffer.now < m) e c.if-length-buffer.true in
+    let w = sym (writes_no_room a.number a.place a.buffer.now k over) in
+    
+    record {
+      value = c.refuse-then-length-buffer.ensures ∙ ap (λ (call : SentenceCall). call.answer) w;
+      buffer_after = ap (λ (call : SentenceCall). call.buffer) w;
+    }
 
 pub slice_bounds-line-end : goal.slice_bounds-line-end
 slice_bounds-line-end c = let l = line c.before.before.before in omega (arith, l.short, l.long)
@@ -41,7 +50,8 @@ returns c =
     let at-if = c.before.before.before.before.before in let at-put = at-if.before.before in
     let a = at-put.args in let s = at-put.put_sentence-length in let l = line at-put in
     let k = known_by_sentence a.number a.place (λ z. at-if.if-length-eq0.false (s.ensures.value ∙ z)) in
-    let w = sym (writes a.number a.place s.result (now a.buffer) k l.ends at-if.if-length-buffer.false) in (
-      ap (λ (call : SentenceCall). call.answer) w,
-      rw l.text at c.put.ensures ∙ ap (λ (call : SentenceCall). call.buffer) w,
-    )
+    let w = sym (writes a.number a.place s.result a.buffer.now k l.ends at-if.if-length-buffer.false) in 
+    record {
+      value = ap (λ (call : SentenceCall). call.answer) w;
+      buffer_after = rw l.text at c.put.ensures ∙ ap (λ (call : SentenceCall). call.buffer) w;
+    }

@@ -1,4 +1,4 @@
-use Rattle.prelude.proofs.Logic.{ap, ◌∙◌, rules, now}
+use Rattle.prelude.proofs.Logic.{ap, ◌∙◌, rules}
 use Rattle.schedule.specs.Times.{started_in}
 use Rattle.sheets.proofs.Answers.{row_there, row_lacking}
 use Rattle.sheets.proofs.row.work_and_write.Goals as goal
@@ -11,12 +11,20 @@ returns-then-row-order c =
     let a = c.args in
     let w = c.write_worked.ensures in
     let since = c.before.before.before.before in
-    let l = row_there a.order a.row (now a.buffer) _ _ since.if-row-order.true
+    let l = row_there a.order a.row a.buffer.now _ _ since.if-row-order.true
     since.row-date.ensures (ap (started_in _) since.since_midnight-worked.ensures.0) in
-    (w.0 ∙ l.0, w.1 ∙ l.1)
+    
+    record {
+      value = w.0 ∙ l.0;
+      buffer_after = w.1 ∙ l.1;
+    }
 
 pub returns : goal.returns
 returns c =
     let a = c.args in
-    let l = row_lacking a.order a.row (now a.buffer) c.if-row-order.false in
-    (c.lacks_row.ensures ∙ l.0, l.1)
+    let l = row_lacking a.order a.row a.buffer.now c.if-row-order.false in
+    
+    record {
+      value = c.lacks_row.ensures ∙ l.0;
+      buffer_after = l.1;
+    }

@@ -1,25 +1,34 @@
 -- The cases of `rowCallOf` in the code's order: a short buffer, a refused order, a read one.
-use Rattle.prelude.proofs.Logic.{sym, ◌∙◌, rules, now}
+use Rattle.prelude.proofs.Logic.{sym, ◌∙◌, rules}
 use Rattle.sheets.proofs.Answers.{row-short, row_read, row-refused}
 use Rattle.sheets.proofs.row.write_row.Goals as goal
 
 pub returns-then-buffer-lt-ROW_BYTES : goal.returns-then-buffer-lt-ROW_BYTES
 returns-then-buffer-lt-ROW_BYTES c =
     let a = c.args in
-    let l = row-short (now a.order) (now a.buffer) a.row c.if-buffer-lt-ROW_BYTES.true in
-    (c.new.ensures ∙ l.0, l.1)
+    let l = row-short a.order.now a.buffer.now a.row c.if-buffer-lt-ROW_BYTES.true in
+    
+    record {
+      value = c.new.ensures ∙ l.0;
+      buffer_after = l.1;
+    }
 
 pub returns-in-Read : goal.returns-in-Read
 returns-in-Read c =
     let a = c.args in
     let e = sym c.read.ensures
     ∙ c.in-Read.is in
-    let l = row_read (now a.order) (now a.buffer) a.row
+    let l = row_read a.order.now a.buffer.now a.row
     c.if-buffer-lt-ROW_BYTES.false _ e in
-    (c.write_read.ensures.value ∙ l.0, c.write_read.ensures.buffer_after ∙ l.1)
+    
+    record {
+      value = c.write_read.ensures.value ∙ l.0;
+      buffer_after = c.write_read.ensures.buffer_after ∙ l.1;
+    }
 
 pub returns-in-Refused : goal.returns-in-Refused
 returns-in-Refused c =
     let a = c.args in
     let e = sym c.read.ensures ∙ c.in-Refused.is in
-    row-refused (now a.order) (now a.buffer) a.row c.if-buffer-lt-ROW_BYTES.false _ e
+    
+    let both = row-refused a.order.now a.buffer.now a.row c.if-buffer-lt-ROW_BYTES.false _ e in record { value = both.0; buffer_after = both.1 }

@@ -1,5 +1,5 @@
 -- Two ends: a refused day changes no byte, a row with times is put at the front.
-use Rattle.prelude.proofs.Logic.{refl, sym, ap, subst, ◌∙◌, [], ◌^◌, ◌<◌, arith, rules, now}
+use Rattle.prelude.proofs.Logic.{refl, sym, ap, subst, ◌∙◌, [], ◌^◌, ◌<◌, arith, rules}
 use Rattle.lines.specs.Lines.{columns_of, row_text}
 use Rattle.lines.proofs.LinesLaws.{columns_length}
 use Rattle.lines.proofs.SinceLaws.{row-since}
@@ -22,11 +22,20 @@ returns-in-Times c =
     let near = subst NearIn w.1 start.requires.1 in
     let t = started_of (start_of a.date) w.0.0 in
     let n = columns_length a.ramadan a.date t in
-    let p = put_next (now a.buffer) [] (row_text a.date (columns_of a.ramadan t)) (now a.buffer) _ 0 refl refl
-    (put.ensures.buffer_after ∙ ap (put_of (now a.buffer) 0) (sym (row-since a.date a.ramadan w.0.0 imsak year near.fajr)))
+    let p = put_next a.buffer.now [] (row_text a.date (columns_of a.ramadan t)) a.buffer.now _ 0 refl refl
+    (put.ensures.buffer_after ∙ ap (put_of a.buffer.now 0) (sym (row-since a.date a.ramadan w.0.0 imsak year near.fajr)))
     (omega (arith, start.requires.0)) in
-    (c.none.ensures ∙ simp w.1, simp w.1 p)
+    
+    record {
+      value = c.none.ensures ∙ simp w.1;
+      buffer_after = simp w.1 p;
+    }
 
 pub returns-in-Refused : goal.returns-in-Refused
 unfolding worked_call_of started_in
-returns-in-Refused c = let e = c.in-Refused.is in (simp e, simp e)
+returns-in-Refused c =
+    let e = c.in-Refused.is in
+    record {
+      value = simp e;
+      buffer_after = simp e;
+    }

@@ -1,5 +1,5 @@
 -- The head and then the lines of all rows are the order's text.
-use Rattle.prelude.proofs.Logic.{◌≡◌, arith, length, rules, now}
+use Rattle.prelude.proofs.Logic.{◌≡◌, arith, length, rules}
 use Rattle.sheets.proofs.Lengths.{room_enough, head_length, sheet_made}
 use Rattle.sheets.proofs.sheet.put_accepted.Goals as goal
 
@@ -9,9 +9,9 @@ put_rows-requires c =
     let p = c.requires in
     let h = c.put_head-head in
     let n = h.ensures.value in
-    let t = head_length a.order.ramadan (now a.town) in
+    let t = head_length a.order.ramadan a.town.now in
     let room = room_enough a.order p.0 in
-    let k : length h.last.0 ≡ length (now a.buffer) = h.kept.0 in
+    let k : length h.new.0 ≡ length a.buffer.now = h.kept.0 in
     (p.0, omega (arith, p.1, p.2))
 
 pub returns : goal.returns
@@ -21,4 +21,5 @@ returns c =
     let h = c.put_head-head.ensures in
     let r = c.put_rows.ensures in
     let room = room_enough a.order p.0 in
-    sheet_made (now a.town) (now a.buffer) _ _ a.order _ _ (omega (arith, p.1, p.2)) h.0 h.1 r.0 r.1
+    
+    let both = sheet_made a.town.now a.buffer.now _ _ a.order _ _ (omega (arith, p.1, p.2)) h.0 h.1 r.0 r.1 in record { value = both.0; buffer_after = both.1 }

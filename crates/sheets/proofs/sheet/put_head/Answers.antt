@@ -1,5 +1,5 @@
 -- The town, a newline and the header that the order asks for.
-use Rattle.prelude.proofs.Logic.{arith, rules, now}
+use Rattle.prelude.proofs.Logic.{arith, rules}
 use Rattle.sheets.proofs.Lengths.{header_short, head_length, head_made}
 use Rattle.sheets.proofs.sheet.put_head.Goals as goal
 
@@ -16,8 +16,9 @@ returns c =
     let a = t.args in
     let h = c.put_header.ensures in
     let n = header_short a.ramadan in
-    let l = head_length a.ramadan (now a.town) in (
-      omega (arith, h.0),
-      head_made a.ramadan (now a.town) (now a.buffer) _ _ (omega (arith, t.requires.0, t.requires.1))
-          c.put.ensures h.1,
-    )
+    let l = head_length a.ramadan a.town.now in 
+    record {
+      value = omega (arith, h.0);
+      buffer_after = head_made a.ramadan a.town.now a.buffer.now _ _ (omega (arith, t.requires.0, t.requires.1))
+          c.put.ensures h.1;
+    }

@@ -1,24 +1,25 @@
 -- Invariant: the suns are the row's, and the lines of the earlier rows are in the buffer, up to `end`.
-use Rattle.prelude.proofs.Logic.{◌≡◌, refl, ap, ◌∙◌, ◌+◌, ◌-◌, ◌^◌, ◌<◌, arith, length, rules, now}
+use Rattle.prelude.proofs.Logic.{◌≡◌, refl, ap, ◌∙◌, ◌+◌, ◌-◌, ◌^◌, ◌<◌, arith, length, rules}
 use Rattle.days.proofs.RowStates.{first-state, next-state}
 use Rattle.schedule.specs.RowSuns.{next_row_suns_of}
 use Rattle.sheets.proofs.Lengths.{lines_none}
 use Rattle.sheets.proofs.Rolled.{Run, Behind, since_line, run-line}
 use Rattle.sheets.proofs.sheet.put_rows.Goals as goal
+use Rattle.sheets.proofs.sheet.put_rows.Goals.{After-put_line-end}
 
 -- after the row whose line is put
-line-holds : (c : goal.After-put-line) → let a =
+line-holds : (c : After-put_line-end) → let a =
     c.args in
     let l = c.loop-row in
-    Behind a.order (now a.buffer) a.at c.put_line-end.last.0 (l.row + 1) (l.end + c.put_line-end.result)
+    Behind a.order a.buffer.now a.at c.put_line-end.new.0 (l.row + 1) (l.end + c.put_line-end.result)
 line-holds c =
     let t = c.before.before.before.before.before.before.before.before in
     let o = t.args.order in
     let l = c.loop-row in
     let put = c.put_line-end in
     let e = c.since_midnight-worked.ensures in
-    run-line o t.requires.0 (now t.args.buffer) t.args.at t.requires.1 l.buffer l.suns l.row l.end l.invariant _
-    put.last.0 put.result
+    run-line o t.requires.0 t.args.buffer.now t.args.at t.requires.1 l.buffer l.suns l.row l.end l.invariant _
+    put.new.0 put.result
     (since_line o t.requires.0 l.suns l.row l.invariant.within l.invariant.state _ e.0 e.1) put.ensures.value put.ensures.buffer_after
 
 pub loop-row-init : goal.loop-row-init
@@ -26,13 +27,13 @@ loop-row-init c =
     let t = c.before.before.before.before in
     let o = t.args.order in
     let p = t.requires in
-    let n = lines_none o (now t.args.buffer) t.args.at (omega (arith, p.1)) in
+    let n = lines_none o t.args.buffer.now t.args.at (omega (arith, p.1)) in
     record { within = p.0.rows.0; state = c.new-suns.ensures ∙ first-state o p.0; text = n.0; place = n.1; same = refl }
 
 pub overflow_add-end : goal.overflow_add-end
 overflow_add-end c =
     let t = c.before.before.before.before.before.before.before.before.before.before in
-    let f : length (now t.args.buffer) < 2 ^ 64 = search rules in
+    let f : length t.args.buffer.now < 2 ^ 64 = search rules in
     omega (arith, (line-holds c.before.before).2)
 
 pub overflow_add-row : goal.overflow_add-row
@@ -52,7 +53,11 @@ returns-then-row-order c =
     let n = line-holds c.before.before.before.before in
     let t = c.before.before.before.before.before.before.before.before.before.before.before.before in
     let e : l.row + 1 ≡ t.args.order.rows = omega (arith, c.if-row-order.true, l.invariant.within) in
-    (rw e at n.1, rw e at n.0)
+    
+    record {
+      value = rw e at n.1;
+      buffer_after = rw e at n.0;
+    }
 
 pub loop-row-smaller : goal.loop-row-smaller
 loop-row-smaller c = omega (arith, c.loop-row.invariant.within)

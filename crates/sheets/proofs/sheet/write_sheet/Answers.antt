@@ -1,18 +1,20 @@
 -- A refused order and a read one, each by the law of every report. The town is read as a part of the order's bytes.
-use Rattle.prelude.proofs.Logic.{◌≡◌, sym, ap, ◌∙◌, lit≤, rules, now}
+use Rattle.prelude.proofs.Logic.{◌≡◌, sym, ap, ◌∙◌, lit≤, rules}
 use Rattle.order.specs.Reading.{town_in, town_of}
 use Rattle.order.proofs.AcceptedLaws.{read_accepted}
 use Rattle.order.proofs.ReadingLaws.{read_town}
 use Rattle.text.proofs.PrintedLaws.{printed-short}
 use Rattle.reports.proofs.ReportsLaws.{report-read, report-refused}
 use Rattle.sheets.proofs.sheet.write_sheet.Goals as goal
+use Rattle.sheets.proofs.sheet.write_sheet.Goals.{After-town-name}
 
-named : (t : goal.After-town-name) → now t.town-name.result ≡ town_of (now t.args.order)
+named : (t : After-town-name) → t.town-name.result.now ≡ town_of t.args.order.now
 unfolding town_of
-named t = t.town-name.ensures ∙ ap (town_in (now t.args.order)) t.read-reading.ensures
+named t = t.town-name.ensures ∙ ap (town_in t.args.order.now) t.read-reading.ensures
 
 pub returns-then-buffer-lt-SHEET_BYTES : goal.returns-then-buffer-lt-SHEET_BYTES
-returns-then-buffer-lt-SHEET_BYTES c = printed-short _ _ _ c.if-buffer-lt-SHEET_BYTES.true
+returns-then-buffer-lt-SHEET_BYTES c =
+    let both = printed-short _ _ _ c.if-buffer-lt-SHEET_BYTES.true in record { value = both.0; buffer_after = both.1 }
 
 pub put_accepted-requires : goal.put_accepted-requires
 put_accepted-requires c =
@@ -26,12 +28,14 @@ returns-in-Read c =
     let taken = c.before.before.before.before.before in
     let called = taken.before.before in
     let e = sym called.read-reading.ensures ∙ taken.in-Read.is in
-    report-read _ _ _ _ called.if-buffer-lt-SHEET_BYTES.false _ _ _ e (simp (named called) at c.put_accepted.ensures)
+    
+    let both = report-read _ _ _ _ called.if-buffer-lt-SHEET_BYTES.false _ _ _ e (simp (named called) at c.put_accepted.ensures) in record { value = both.0; buffer_after = both.1 }
 
 pub returns-in-Refused : goal.returns-in-Refused
 returns-in-Refused c =
     let taken = c.before.before.before.before.before in
     let called = taken.before.before in
-    report-refused _ _ _ _ called.if-buffer-lt-SHEET_BYTES.false _ _ (lit≤ tt) _
+    
+    let both = report-refused _ _ _ _ called.if-buffer-lt-SHEET_BYTES.false _ _ (lit≤ tt) _
     (sym called.read-reading.ensures ∙ taken.in-Refused.is)
-    c.put_refused_order.ensures
+    c.put_refused_order.ensures in record { value = both.0; buffer_after = both.1 }

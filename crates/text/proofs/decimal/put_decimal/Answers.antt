@@ -45,7 +45,8 @@ returns c =
     let d : drop l.first done ≡ decimal_of a.n = last_digit a.n l.digits l.first l.rest l.invariant
     c.loop-rest-test.false in
     let n = length-drop l.first done in let m : length (decimal_of a.n) ≡ length (drop l.first done) = ap length (sym d) in
-    let t : take (20 - l.first) (decimal_of a.n) ≡ decimal_of a.n = take_all (20 - l.first) (decimal_of a.n) (omega arith) in (
-      omega arith,
-      rw (d, t) at (simp c.digit-2.ensures at c.put.ensures),
-    )
+    let t : take (20 - l.first) (decimal_of a.n) ≡ decimal_of a.n = take_all (20 - l.first) (decimal_of a.n) (omega arith) in 
+    record {
+      value = omega arith;
+      buffer_after = rw (d, t) at (simp c.digit-2.ensures at c.put.ensures);
+    }

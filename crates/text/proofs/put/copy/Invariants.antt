@@ -1,5 +1,5 @@
 use Rattle.prelude.proofs.Logic.{◌≡◌, refl, sym, ◌∙◌, ◌+◌, ◌-◌, ◌≤◌, add-one, arith, length, get_or, set, length-set, paste, paste-zero}
-use Rattle.prelude.proofs.Logic.{paste-suc, rules, now}
+use Rattle.prelude.proofs.Logic.{paste-suc, rules}
 use Rattle.text.proofs.put.copy.Given as goal
 
 abbrev pub invariant-loop-i : goal.invariant-loop-i

@@ -1,16 +1,17 @@
 -- Four pieces, each put where the one before it ends.
-use Rattle.prelude.proofs.Logic.{◌≡◌, ◌+◌, ◌≤◌, arith, length, rules, w64, now}
+use Rattle.prelude.proofs.Logic.{◌≡◌, ◌+◌, ◌≤◌, arith, length, rules, w64}
 use Rattle.integers.proofs.Ranges.{read}
 use Rattle.text.specs.{Signed.signed_of, Text.decimalOf}
 use Rattle.weeks.proofs.LineLaws.{pair_bytes, pair_made}
 use Rattle.weeks.proofs.line.put_pair.Goals as goal
+use Rattle.weeks.proofs.line.put_pair.Goals.{After-put_signed}
 
 -- a sum up to any piece fits, since the whole text has room
-signed-bytes : (c : goal.After-put-signed)
+signed-bytes : (c : After-put_signed)
     → let start = c.before.before.before.before.before.before.before.before in
     (c.put_signed.result ≡ length (signed_of start.args.minute))
     × (start.args.at + (2 + length (signed_of start.args.minute) + length (decimalOf start.args.row))
-    ≤ length (now start.args.buffer))
+    ≤ length start.args.buffer.now)
 signed-bytes c =
     let start = c.before.before.before.before.before.before.before.before in
     let bytes = pair_bytes start.args.minute start.args.row in

@@ -1,18 +1,19 @@
 -- The pieces of either line, each put where the one before it ends.
-use Rattle.prelude.proofs.Logic.{◌≡◌, ◌+◌, ◌≤◌, arith, length, rules, w64, now}
+use Rattle.prelude.proofs.Logic.{◌≡◌, ◌+◌, ◌≤◌, arith, length, rules, w64}
 use Rattle.integers.proofs.Ranges.{read}
 use Rattle.text.specs.Text.{put_of}
 use Rattle.weeks.specs.Lines.{pair_text}
 use Rattle.weeks.proofs.LineLaws.{line_front, found_bytes, refused_bytes, found-made, refused-made}
 use Rattle.weeks.proofs.line.put_window.Goals as goal
+use Rattle.weeks.proofs.line.put_window.Goals.{After-put_pair-end, After-put_pair-end-in-Found}
 
 -- the earliest's piece: where it ends, with room for the latest's and the newline
-earliest-put : (c : goal.After-put-pair) → let matched = c.before.before.before.before in
+earliest-put : (c : After-put_pair-end) → let matched = c.before.before.before.before in
     let number = matched.before.before.before.before in
     let start = number.before.before.before in
     let x = matched.in-Found.found in
     (c.put_pair-end.result ≡ start.args.at + number.put_decimal.result + length (pair_text x.earliest x.earliest_row))
-    × (c.put_pair-end.result + length (pair_text x.latest x.latest_row) + 1 ≤ length (now start.args.buffer))
+    × (c.put_pair-end.result + length (pair_text x.latest x.latest_row) + 1 ≤ length start.args.buffer.now)
 earliest-put c =
     let matched = c.before.before.before.before in
     let number = matched.before.before.before.before in
@@ -23,10 +24,10 @@ earliest-put c =
     (e, omega (arith, number.put_decimal.ensures.value))
 
 -- and the latest's piece
-latest-put : (c : goal.After-put-pair2) → let put = c.before.before.before.before.before in
+latest-put : (c : After-put_pair-end-in-Found) → let put = c.before.before.before.before.before in
     let x = put.in-Found.found in
     (c.put_pair-end-in-Found.result ≡ put.put_pair-end.result + length (pair_text x.latest x.latest_row))
-    × (c.put_pair-end-in-Found.last.0 ≡ put_of put.put_pair-end.last.0 put.put_pair-end.result (pair_text x.latest x.latest_row))
+    × (c.put_pair-end-in-Found.new.0 ≡ put_of put.put_pair-end.new.0 put.put_pair-end.result (pair_text x.latest x.latest_row))
 latest-put c =
     let x = c.in-Found.found in
     rw (read w64 x.latest (search rules)) at c.put_pair-end-in-Found.ensures
@@ -44,7 +45,7 @@ put_pair-end-requires c =
     let start = number.before.before.before in
     let room = rw matched.in-Found.is at start.requires in
     let bytes = found_bytes start.args.first matched.in-Found.found in
-    let kept : length number.put_decimal.last.0 ≡ length (now start.args.buffer) = number.put_decimal.kept.0 in
+    let kept : length number.put_decimal.new.0 ≡ length start.args.buffer.now = number.put_decimal.kept.0 in
     rw (read w64 matched.in-Found.found.earliest (search rules)) (omega (arith, number.put_decimal.ensures.value))
 
 pub put_pair-end-requires-in-Found : goal.put_pair-end-requires-in-Found
@@ -53,9 +54,9 @@ put_pair-end-requires-in-Found c =
     let matched = put.before.before.before.before in
     let number = matched.before.before.before.before in
     let p = earliest-put put in
-    let buffer = now number.args.buffer in
-    let kept : length number.put_decimal.last.0 ≡ length buffer = number.put_decimal.kept.0 in
-    let kept2 : length put.put_pair-end.last.0 ≡ length number.put_decimal.last.0 = put.put_pair-end.kept.0 in
+    let buffer = number.args.buffer.now in
+    let kept : length number.put_decimal.new.0 ≡ length buffer = number.put_decimal.kept.0 in
+    let kept2 : length put.put_pair-end.new.0 ≡ length number.put_decimal.new.0 = put.put_pair-end.kept.0 in
     rw (read w64 matched.in-Found.found.latest (search rules)) (omega arith)
 
 pub enum_told-1 : goal.enum_told-1
@@ -83,5 +84,6 @@ returns-in-Refused c =
     let told = matched.in-Found.is in
     let x = read w64 matched.in-Found.found.earliest (search rules) in
     let decimal = number.put_decimal.ensures in
-    rw told (found-made _ _ _ _ (rw told at number.requires) _ _ _ _ _ _ _ decimal.0 decimal.1
-    (earliest-put put).0 (rw x at put.put_pair-end.ensures.buffer_after) (latest-put last).0 (latest-put last).1 c.put.ensures)
+    
+    let both = rw told (found-made _ _ _ _ (rw told at number.requires) _ _ _ _ _ _ _ decimal.0 decimal.1
+    (earliest-put put).0 (rw x at put.put_pair-end.ensures.buffer_after) (latest-put last).0 (latest-put last).1 c.put.ensures) in record { value = both.0; buffer_after = both.1 }

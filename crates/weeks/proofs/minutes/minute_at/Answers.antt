@@ -1,4 +1,4 @@
-use Rattle.prelude.proofs.Logic.{pos, get_or, rules, w64, SFits, now}
+use Rattle.prelude.proofs.Logic.{pos, get_or, rules, w64, SFits}
 use Rattle.integers.proofs.Ranges.{read}
 use Rattle.weeks.specs.Kept.{minute_at}
 use Rattle.weeks.proofs.minutes.minute_at.Goals as goal
@@ -11,5 +11,5 @@ pub returns : goal.returns
 unfolding minute_at
 returns c =
     let start = c.before.before.before in
-    let fits : SFits w64 (get_or (now start.args.minutes) start.args.row (pos 0)) = search rules in
+    let fits : SFits w64 (get_or start.args.minutes.now start.args.row (pos 0)) = search rules in
     simp (c.if-refused-row.false, read w64 _ fits)

@@ -1,5 +1,5 @@
 -- A day with a Fajr stores its minute, a refused day its mark; the other rows stay.
-use Rattle.prelude.proofs.Logic.{◌≡◌, ap, ◌∙◌, ℤ, rules, w64, SFits, now}
+use Rattle.prelude.proofs.Logic.{◌≡◌, ap, ◌∙◌, ℤ, rules, w64, SFits}
 use Rattle.integers.proofs.Integers.{read_back, read, floor_quot}
 use Rattle.weeks.specs.Kept.{minute_from}
 use Rattle.weeks.proofs.MinuteLaws.{stored-minute, stored_refused}
@@ -14,11 +14,11 @@ returns-in-Some c k =
     let kept : read_back w64 c.whole_minutes.result ≡ c.whole_minutes.result = search rules in
     let is = kept ∙ c.whole_minutes.ensures ∙ ap (λ (z : ℤ). floor_quot z 60) (read w64 given.0.0 fits) in
     let room = c.requires in
-    simp (given.1, ← is) (stored-minute (now a.minutes) (now a.refused) a.row room.1 _ room.0 k)
+    simp (given.1, ← is) (stored-minute a.minutes.now a.refused.now a.row room.1 _ room.0 k)
 
 pub returns-in-Nothing : goal.returns-in-Nothing
 unfolding minute_from
 returns-in-Nothing c k =
     let a = c.args in
     let room = c.requires in
-    simp c.in-Nothing.is (stored_refused (now a.minutes) (now a.refused) a.row room.1 k)
+    simp c.in-Nothing.is (stored_refused a.minutes.now a.refused.now a.row room.1 k)

@@ -5,20 +5,21 @@ use Rattle.schedule.specs.RowSuns.{next_row_suns_of}
 use Rattle.weeks.specs.{Kept.minuteAt, Report.rowMinute}
 use Rattle.weeks.proofs.MinuteLaws.{Run, row_done}
 use Rattle.weeks.proofs.minutes.work_minutes.Goals as goal
+use Rattle.weeks.proofs.minutes.work_minutes.Goals.{After-store, At-loop-row}
 
 -- after the row that is stored
-stored : (c : goal.After-store)
+stored : (c : After-store)
     → let order = c.args.order in
     (k : ℕ) → k < c.loop-row.row + 1
-    → minuteAt c.store.last.1.1.0 c.store.last.1.1.1.0 k ≡ rowMinute order k
+    → minuteAt c.store.new.1.1.0 c.store.new.1.1.1.0 k ≡ rowMinute order k
 stored c = search row_done
 
 -- the arrays keep their lengths
-long : (c : goal.After-store) → (length c.store.last.1.1.0 ≡ 400) × (length c.store.last.1.1.1.0 ≡ 400)
+long : (c : After-store) → (length c.store.new.1.1.0 ≡ 400) × (length c.store.new.1.1.1.0 ≡ 400)
 long c = let l = c.loop-row.invariant.long in (c.store.kept.1.1.0 ∙ l.0, c.store.kept.1.1.1.0 ∙ l.1)
 
 -- an order has few rows, so every number here fits
-few : (c : goal.At-loop-row) → c.loop-row.row < 400
+few : (c : At-loop-row) → c.loop-row.row < 400
 few c = omega (arith, c.loop-row.invariant.within, c.requires.0.rows.1)
 
 pub loop-row-init : goal.loop-row-init

@@ -14,5 +14,9 @@ returns c =
     let a = c.args in
     let work = c.work_minutes in
     let put = c.put_windows.ensures in
-    let same = report-same (minuteAt work.last.1.0 work.last.1.1.0) (rowMinute a.order) a.order.rows work.ensures in
-    (rw same at put.0, rw same at put.1)
+    let same = report-same (minuteAt work.new.1.0 work.new.1.1.0) (rowMinute a.order) a.order.rows work.ensures in
+    
+    record {
+      value = rw same at put.0;
+      buffer_after = rw same at put.1;
+    }

@@ -5,9 +5,10 @@ use Rattle.whole_minutes.specs.Times.{sat_of, rounded_of}
 use Rattle.whole_minutes.proofs.Minutes.{fits_32_bits}
 use Rattle.whole_minutes.proofs.TimesLaws.{sat_in}
 use Rattle.whole_minutes.proofs.times.rounded_minute.Goals as goal
+use Rattle.whole_minutes.proofs.times.rounded_minute.Goals.{Start}
 
 -- the time as the machine has it
-abbrev machine : goal.Start → ℤ
+abbrev machine : Start → ℤ
 machine t = read_back w64 t.args.t
 
 pub overflow_cast-t : goal.overflow_cast-t

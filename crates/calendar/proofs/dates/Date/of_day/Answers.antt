@@ -4,9 +4,10 @@ use Rattle.integers.proofs.Integers.{read}
 use Rattle.calendar.specs.Days.{date_at_of}
 use Rattle.calendar.proofs.ByCount.{days-fit, year-fits, Rest, rest, since_held}
 use Rattle.calendar.proofs.dates.Date.of_day.Goals as goal
+use Rattle.calendar.proofs.dates.Date.of_day.Goals.{After-days_before_year}
 
 -- the days of the year up to the day, from 1 on
-rest-of-year : (c : goal.After-days-before-year) → Rest _ _ c.since_first-n.ensures _ c.year_of-year.ensures _
+rest-of-year : (c : After-days_before_year) → Rest _ _ c.since_first-n.ensures _ c.year_of-year.ensures _
     c.days_before_year.ensures
 rest-of-year c = rest _ _ c.since_first-n.ensures _ c.year_of-year.ensures _ c.days_before_year.ensures
 

@@ -5,8 +5,9 @@ use Rattle.calendar.specs.Gregorian.{exists_of}
 use Rattle.calendar.proofs.ByMonth.{from_none, row_early}
 use Rattle.calendar.proofs.Machine.{row_fits, row_read}
 use Rattle.calendar.proofs.dates.Date.row.Goals as goal
+use Rattle.calendar.proofs.dates.Date.row.Goals.{Else-not-exists}
 
-here : (e : goal.Else-not-exists) → exists_of e.args.self ≡ true
+here : (e : Else-not-exists) → exists_of e.args.self ≡ true
 here e = sym e.exists.ensures ∙ not-false _ e.if-not-exists.false
 
 pub returns-then-not-exists : goal.returns-then-not-exists

@@ -4,16 +4,17 @@ use Rattle.prelude.proofs.Logic.{◌≡◌, sym, ◌∙◌, true, arith, rules, 
 use Rattle.calendar.specs.Gregorian.{days_in_month_of, exists_of}
 use Rattle.calendar.proofs.ByMonth.{from_none, day-later, day-later-early, month-later, year-later, last-of-all}
 use Rattle.calendar.proofs.dates.Date.tomorrow.Goals as goal
+use Rattle.calendar.proofs.dates.Date.tomorrow.Goals.{After-month_days, Else-not-exists}
 
-here : (e : goal.Else-not-exists) → exists_of e.args.self ≡ true
+here : (e : Else-not-exists) → exists_of e.args.self ≡ true
 here e = sym e.exists.ensures ∙ not-false _ e.if-not-exists.false
 
 -- what is known before the month's days are asked for
-abbrev first : goal.After-month-days → goal.Else-not-exists
+abbrev first : After-month_days → Else-not-exists
 first m = m.before.before.before
 
 -- the month's days, as they are asked for
-days : (m : goal.After-month-days) → let d = (first m).args.self in
+days : (m : After-month_days) → let d = (first m).args.self in
     m.month_days.result ≡ days_in_month_of d.year d.month
 days m = cc
 

@@ -4,8 +4,9 @@ use Rattle.prelude.proofs.Logic.{◌≡◌, sym, ap, ◌∙◌, Bool, ℕ, true,
 use Rattle.calendar.specs.Gregorian.{date_of, length_of, exists_of}
 use Rattle.calendar.proofs.ByMonth.{from_none, day-earlier, month-earlier, year-earlier, first-of-all}
 use Rattle.calendar.proofs.dates.Date.yesterday.Goals as goal
+use Rattle.calendar.proofs.dates.Date.yesterday.Goals.{Else-not-exists}
 
-here : (e : goal.Else-not-exists) → exists_of e.args.self ≡ true
+here : (e : Else-not-exists) → exists_of e.args.self ≡ true
 here e = sym e.exists.ensures ∙ not-false _ e.if-not-exists.false
 
 pub returns-then-not-exists : goal.returns-then-not-exists

@@ -3,8 +3,9 @@ use Rattle.prelude.proofs.Logic.{sym, rules, w32, SFits}
 use Rattle.integers.proofs.Ranges.{read}
 use Rattle.schedule.specs.Asked.{isha_asked_of}
 use Rattle.schedule.proofs.angles.TwilightSines.isha_hour.Goals as goal
+use Rattle.schedule.proofs.angles.TwilightSines.isha_hour.Goals.{Start}
 
-interval : (t : goal.Start) → SFits w32 t.args.setting.parameters.isha_interval
+interval : (t : Start) → SFits w32 t.args.setting.parameters.isha_interval
 interval t = search rules
 
 pub returns-then-parameters-gt0 : goal.returns-then-parameters-gt0

@@ -5,9 +5,10 @@ use Rattle.models.specs.Numbers.{prayer_of}
 use Rattle.schedule.proofs.Schedule.{Some, last_of, ahead_of, time_of}
 use Rattle.schedule.proofs.Due as due
 use Rattle.schedule.proofs.prayer_times.PrayerTimes.current_time.Goals as goal
+use Rattle.schedule.proofs.prayer_times.PrayerTimes.current_time.Goals.{After-ahead}
 
 -- the seconds to the prayer that is looked at
-looked : (c : goal.After-ahead) → let a = c.args in
+looked : (c : After-ahead) → let a = c.args in
     c.ahead.result ≡ ahead_of (time_of a.self (prayer_of c.loop-n.n)) a.instant
 looked c =
     let at-loop = c.before.before.before.before in

@@ -2,8 +2,9 @@
 use Rattle.prelude.proofs.Logic.{rules, w64, SFits, to_z-of_z}
 use Rattle.schedule.proofs.Schedule.{time_of, Each}
 use Rattle.schedule.proofs.prayer_times.PrayerTimes.time.Goals as goal
+use Rattle.schedule.proofs.prayer_times.PrayerTimes.time.Goals.{Start}
 
-each : (t : goal.Start) → Each (SFits w64) t.args.self
+each : (t : Start) → Each (SFits w64) t.args.self
 each t = search rules
 
 pub returns-in-Fajr : goal.returns-in-Fajr
