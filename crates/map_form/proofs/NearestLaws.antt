@@ -29,7 +29,7 @@ one_is_nearest a d b c h k =
     omega arith
   where
     below : {b c : ℕ} → Nearest a d b → Nearest a d c → 2 * (b * d) < 2 * (c * d) + 2 * d
-    below {b} {c} h k = omega (arith, h.not_above_lem, k.not_below, k.half_up_lem)
+    below {b} {c} h k = omega (arith, h.not_above, k.not_below, k.half_up)
 
 -- ---- the parts of n make n again
 whole : (sign n : ℕ) → size_of (parts_of sign n) ≡ n
