@@ -1,4 +1,4 @@
--- The cases of `tomorrowOf` in the code's order: a date that does not exist, one that every month has a day after, one within its month,
+-- The cases of `tomorrow_of` in the code's order: a date that does not exist, one that every month has a day after, one within its month,
 -- the last of a month, of all years, of a year.
 use Rattle.prelude.proofs.Logic.{◌≡◌, sym, ◌∙◌, true, arith, rules}
 use Rattle.calendar.specs.Gregorian.{days_in_month_of, exists_of}

@@ -1,4 +1,4 @@
--- The cases of `yesterdayOf` in the code's order: a date that does not exist, one within its month, the first of a month, 0000-01-01, the
+-- The cases of `yesterday_of` in the code's order: a date that does not exist, one within its month, the first of a month, 0000-01-01, the
 -- first of a year.
 use Rattle.prelude.proofs.Logic.{◌≡◌, sym, ap, ◌∙◌, Bool, ℕ, true, ◌-◌, rules}
 use Rattle.calendar.specs.Gregorian.{date_of, length_of, exists_of}
