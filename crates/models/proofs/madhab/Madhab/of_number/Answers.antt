@@ -16,4 +16,4 @@ returns-in-1 c = simp c.in-1.is
 
 pub returns-in_default : goal.returns-in_default
 unfolding madhab_of
-returns-in_default c = rest c.args.n c.in-1.rest.1
+returns-in_default c = rest c.args.n (let h = c.in_default in ?)

@@ -7,4 +7,4 @@ returns-in-0 c = simp c.in-0.is
 
 pub returns-in_default : goal.returns-in_default
 unfolding midnight_of
-returns-in_default c = second Stops Carries c.args.n c.in-0.rest.1
+returns-in_default c = second Stops Carries c.args.n (let h = c.in_default in ?)
