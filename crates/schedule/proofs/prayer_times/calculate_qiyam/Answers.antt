@@ -7,9 +7,9 @@ use Rattle.schedule.proofs.Schedule.{middle_of_the_night_of, qiyam_of, of_near, 
 use Rattle.schedule.proofs.prayer_times.calculate_qiyam.Goals as goal
 
 pub overflow_sub-night : goal.overflow_sub-night
-overflow_sub-night t =
-    held_fits (held_difference (of_i64 t.args.fajr t.fits.fajr t.pre.1)
-    (of_i64 t.args.maghrib t.fits.maghrib t.pre.0)) (lit≤ tt)
+overflow_sub-night c =
+    held_fits (held_difference (of_i64 c.args.fajr c.ranges.fajr c.requires.1)
+    (of_i64 c.args.maghrib c.ranges.maghrib c.requires.0)) (lit≤ tt)
 
 pub into_the_night-requires : goal.into_the_night-requires
 into_the_night-requires c =
