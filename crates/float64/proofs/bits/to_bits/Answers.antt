@@ -1,4 +1,4 @@
-use Rattle.prelude.proofs.Logic.{sym, ap, rules}
+use Rattle.prelude.proofs.Logic.{sym, ap}
 use Rattle.prelude.proofs.Ieee.{binary64, to_bits}
 use Rattle.float64.proofs.Patterns.{is_nan_lem, no_nan}
 use Rattle.float64.proofs.bits.to_bits.Goals as goal

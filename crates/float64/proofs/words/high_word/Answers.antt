@@ -1,4 +1,4 @@
-use Rattle.prelude.proofs.Logic.{refl, sym, ap, rules}
+use Rattle.prelude.proofs.Logic.{refl, sym, ap}
 use Rattle.prelude.proofs.Ieee.{to_bits}
 use Rattle.float64.specs.Words.{high_of}
 use Rattle.float64.proofs.Patterns.{is_nan_lem, no_nan}

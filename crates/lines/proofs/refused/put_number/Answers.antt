@@ -17,7 +17,7 @@ returns c =
     let d = c.put_decimal.ensures in
     let p = c.requires in 
     record {
-      value = number_end a.word.now a.at a.n _ d.0;
+      value = number_end a.word.now a.at a.n _ d.value;
       line_after = number_made a.line.now _ _ a.word.now a.at a.n p.1
-          c.put.ensures d.1;
+          c.put.ensures d.buffer_after;
     }

@@ -12,7 +12,7 @@ slice_bounds-line-end c =
     let p = c.requires in
     let e = m.ensures.value in
     let l = refused_length a.whose.now a.word.now a.refusal in
-    let k : length m.new.0 ≡ 70 = m.kept.0 in
+    let k : length m.new.line ≡ 70 = m.auto.line in
     omega (arith, p.0, p.1)
 
 pub slice_bounds-put-end : goal.slice_bounds-put-end
@@ -20,14 +20,14 @@ slice_bounds-put-end c =
     let a = c.args in
     let m = c.make_line-end in
     m.ensures.value ∙ sym (ap length
-    (cut_front (refused_text a.whose.now a.word.now a.refusal) _ m.new.0 m.result m.ensures.value m.ensures.line_after))
+    (cut_front (refused_text a.whose.now a.word.now a.refusal) _ m.new.line m.result m.ensures.value m.ensures.line_after))
 
 pub returns : goal.returns
 returns c =
     let a = c.args in
     let m = c.make_line-end in
     let t =
-    cut_front (refused_text a.whose.now a.word.now a.refusal) _ m.new.0 m.result m.ensures.value m.ensures.line_after in
+    cut_front (refused_text a.whose.now a.word.now a.refusal) _ m.new.line m.result m.ensures.value m.ensures.line_after in
     
     record {
       value = m.ensures.value;

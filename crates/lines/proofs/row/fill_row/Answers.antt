@@ -7,22 +7,12 @@ use Rattle.lines.specs.Since.{epoch, row_since}
 use Rattle.lines.proofs.LinesLaws.{date_length, time_length}
 use Rattle.lines.proofs.Parts.{part_text, part_put, date_put, time_put, newline-put}
 use Rattle.lines.proofs.row.fill_row.Goals as goal
-use Rattle.lines.proofs.row.fill_row.Goals.{After-put}
-
--- the line once the date is put
-date-holds : (c : After-put) → let start = c.before.before.before.before.before in
-    (take 10 c.put.new.0 ≡ date_text start.args.date)
-    × (c.put.new.0 ≡ front_of (part_text (take 10 c.put.new.0) start.args.times.now 0) start.args.line.now)
-date-holds c =
-    let start = c.before.before.before.before.before in
-    let a = start.args in
-    let text = c.date_text in
-    date_put a.date a.times.now a.line.now c.put.new.0 text.result start.requires.1 text.ensures c.put.ensures
 
 pub loop-i-init : goal.loop-i-init
 loop-i-init c =
-    let start = c.before.before.before.before.before.before.before in
-    (omega arith, c.put.kept.0 ∙ start.requires.1, start.args.line.now, start.requires.1, (date-holds c.before.before).1)
+    let a = c.args in
+    let d = date_put a.date a.times.now a.line.now c.put.new.buffer _ c.requires.1 c.date_text.ensures c.put.ensures in
+    (omega arith, c.put.auto.buffer ∙ c.requires.1, a.line.now, c.requires.1, d.1)
 
 pub offset_bounds-times-i : goal.offset_bounds-times-i
 offset_bounds-times-i c =
@@ -31,8 +21,8 @@ offset_bounds-times-i c =
 
 pub loop-i-preserved : goal.loop-i-preserved
 loop-i-preserved c =
-    let first = c.before.before.before.before.before.before.before.before.before.before.before in
-    let a = first.args in
+    let a = c.args in
+    let d = date_put a.date a.times.now a.line.now c.put.new.buffer _ c.requires.1 c.date_text.ensures c.put.ensures in
     let l = c.loop-i in
     let h = c.loop-i-test.true in
     let text = c.time_text in
@@ -42,11 +32,23 @@ loop-i-preserved c =
     let n : length text.result ≡ 12 = ap length e ∙ time_length epoch (get_or a.times.now l.i (pos 0)) in
     let at = 10 + 12 * l.i in
     let room : at + (at + 12 - at) ≤ length l.line = omega (arith, h, l.invariant.1) in
-    let after = part_put l.line text.result put.new.0 at (at + 12 - at) (omega arith) room put.ensures in (
+    let after = part_put l.line text.result put.new.buffer at (at + 12 - at) (omega arith) room put.ensures in (
       omega (arith, h),
       c.line-in-loop-i-1.given.1 ∙ l.invariant.1,
       l.invariant.2,
       l.invariant.3,
-      time_put (take 10 first.put.new.0) (ap length (date-holds first).0 ∙ date_length a.date) a.times.now l.i (pos 0)
+      time_put (take 10 c.put.new.buffer) (ap length d.0 ∙ date_length a.date) a.times.now l.i (pos 0)
           l.invariant.2 l.line _ text.result h l.invariant.3 l.invariant.4 e after,
     )
+
+pub returns : goal.returns
+unfolding row_since
+returns c =
+    let a = c.args in
+    let l = c.loop-i in
+    let put = c.put-2 in
+    let date = (date_put a.date a.times.now a.line.now c.put.new.buffer _ c.requires.1 c.date_text.ensures c.put.ensures).0 in
+    let end : l.i ≡ length a.times.now = omega (arith, l.invariant.0, c.loop-i-test.false) in
+    newline-put (take 10 c.put.new.buffer) (ap length date ∙ date_length a.date) a.times.now l.i l.invariant.2 l.line
+    put.new.buffer end l.invariant.3 l.invariant.4 put.ensures
+    ∙ ap (λ (text : List ℕ). text ++ times_text epoch a.times.now ++ ascii "\n") date

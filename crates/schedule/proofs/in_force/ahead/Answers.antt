@@ -6,9 +6,8 @@ use Rattle.schedule.proofs.in_force.ahead.Goals.{After-between-whole}
 
 told : (c : After-between-whole) → let a = c.args in c.between-whole.result ≡ P (a.time -ℤ a.instant.seconds)
 told c =
-    let t = c.before.before in
-    let f : SFits w64 t.args.instant.seconds = search rules in
-    c.between-whole.ensures ∙ ap P (differences (read w64 t.args.time t.ranges.time) (read w64 t.args.instant.seconds f))
+    let f : SFits w64 c.args.instant.seconds = search rules in
+    c.between-whole.ensures ∙ ap P (differences (read w64 c.args.time c.ranges.time) (read w64 c.args.instant.seconds f))
 
 pub returns-then-whole-begun : goal.returns-then-whole-begun
 returns-then-whole-begun c =

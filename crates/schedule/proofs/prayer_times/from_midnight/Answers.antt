@@ -52,32 +52,21 @@ final_time-requires-5 c = asked (of_near c.unadjusted_isha-isha.ensures (lit≤ 
 pub returns : goal.returns
 unfolding from_midnight_of final_of
 returns c =
-    let c1 = c.before in
-    let c2 = c1.before in
-    let c3 = c2.before in
-    let c4 = c3.before in
-    let c5 = c4.before in
-    let c6 = c5.before in
-    let c7 = c6.before in
-    let c8 = c7.before in
-    let c9 = c8.before in
-    let c10 = c9.before in
-    let c11 = c10.before in
     let t = start c11 in
     let p = t.args.parameters in
-    let u = of_near c11.unadjusted_fajr-fajr.ensures (lit≤ tt) in
-    let o = of_near c10.or-asr.ensures (lit≤ tt) in
-    let e = of_near c9.unadjusted_isha-isha.ensures (lit≤ tt) in
-    let fajr = held_as (of_near c5.final_time.ensures (lit≤ tt)) (ap (final_of p Fajr) u.is) in
-    let rise = held_as (of_near c4.final_time-2.ensures (lit≤ tt)) (ap (final_of p Sunrise) (read_wide _ (sunrise t))) in
-    let dhuhr = held_as (of_near c3.final_time-3.ensures (lit≤ tt)) (ap (final_of p Dhuhr) (read_wide _ (transit t))) in
-    let asr = held_as (of_near c2.final_time-4.ensures (lit≤ tt))
+    let u = of_near c.unadjusted_fajr-fajr.ensures (lit≤ tt) in
+    let o = of_near c.or-asr.ensures (lit≤ tt) in
+    let e = of_near c.unadjusted_isha-isha.ensures (lit≤ tt) in
+    let fajr = held_as (of_near c.final_time.ensures (lit≤ tt)) (ap (final_of p Fajr) u.is) in
+    let rise = held_as (of_near c.final_time-2.ensures (lit≤ tt)) (ap (final_of p Sunrise) (read_wide _ (sunrise t))) in
+    let dhuhr = held_as (of_near c.final_time-3.ensures (lit≤ tt)) (ap (final_of p Dhuhr) (read_wide _ (transit t))) in
+    let asr = held_as (of_near c.final_time-4.ensures (lit≤ tt))
     (ap (final_of p Asr) (o.is ∙ ap (or_of t.args.hours.asr) (read_wide _ (transit t)))) in
-    let maghrib = held_as (of_near c8.final_time-maghrib.ensures (lit≤ tt)) (ap (final_of p Maghrib) (read_wide _ (sunset t))) in
-    let isha = held_as (of_near c1.final_time-5.ensures (lit≤ tt)) (ap (final_of p Isha) e.is) in
-    let next = of_near c7.next_fajr-fajr_tomorrow.ensures (lit≤ tt) in
-    let middle = held_as (of_near c6.calculate_qiyam-night.ensures.0 (lit≤ tt)) (both middle_of_the_night_of maghrib.is next.is) in
-    let qiyam = held_as (of_near c6.calculate_qiyam-night.ensures.1 (lit≤ tt)) (both qiyam_of maghrib.is next.is) in (
+    let maghrib = held_as (of_near c.final_time-maghrib.ensures (lit≤ tt)) (ap (final_of p Maghrib) (read_wide _ (sunset t))) in
+    let isha = held_as (of_near c.final_time-5.ensures (lit≤ tt)) (ap (final_of p Isha) e.is) in
+    let next = of_near c.next_fajr-fajr_tomorrow.ensures (lit≤ tt) in
+    let middle = held_as (of_near c.calculate_qiyam-night.ensures.0 (lit≤ tt)) (both middle_of_the_night_of maghrib.is next.is) in
+    let qiyam = held_as (of_near c.calculate_qiyam-night.ensures.1 (lit≤ tt)) (both qiyam_of maghrib.is next.is) in (
       simp (fajr.is, rise.is, dhuhr.is, asr.is, maghrib.is, isha.is, middle.is, qiyam.is, next.is),
       record {
         fajr = asked fajr (lit≤ tt);

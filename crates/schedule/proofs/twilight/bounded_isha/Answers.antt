@@ -34,12 +34,10 @@ own-requires c =
 pub returns : goal.returns
 unfolding bounded_isha_of
 returns c =
-    let v = c.before.before in
-    let t = v.before.before.before.before.before in
-    let n = of_near v.night-night.ensures (lit≤ tt) in
-    let b = of_near v.isha_bound-bound.ensures (lit≤ tt) in
-    let bound = b.is ∙ ap (isha_bound_of t.args.parameters t.args.season t.args.date t.args.today) n.is in
+    let n = of_near c.night-night.ensures (lit≤ tt) in
+    let b = of_near c.isha_bound-bound.ensures (lit≤ tt) in
+    let bound = b.is ∙ ap (isha_bound_of c.args.parameters c.args.season c.args.date c.args.today) n.is in
     let o = of_near c.own.ensures (lit≤ tt) in
-    let own = o.is ∙ both (λ (s y : ℤ). own_of t.args.parameters.method t.args.season.latitude s t.args.hour y)
+    let own = o.is ∙ both (λ (s y : ℤ). own_of c.args.parameters.method c.args.season.latitude s c.args.hour y)
     (stored (by-night v) (lit≤ tt)).is bound in
     promised (held_as (of_near c.earlier.ensures (lit≤ tt)) (both earlier_of own bound)) (lit≤ tt)

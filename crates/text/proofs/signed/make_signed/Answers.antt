@@ -1,5 +1,5 @@
 -- Two returns: a minus sign and the digits of the size, or the digits alone.
-use Rattle.prelude.proofs.Logic.{arith, rules, w64}
+use Rattle.prelude.proofs.Logic.{arith, w64}
 use Rattle.integers.proofs.Ranges.{read}
 use Rattle.text.proofs.SignedLaws.{minus-made, plain-made}
 use Rattle.text.proofs.TextLaws.{digits_short}

@@ -16,20 +16,16 @@ returns-then-parameters-gt0 c =
 pub returns-then-by_seventh : goal.returns-then-by_seventh
 unfolding isha_asked_of
 returns-then-by_seventh c =
-    let none = c.before.before in
-    let at_here = none.before.before.before.before.before.before in
-    simp (rw (read w32 _ (interval (at_here))) at none.if-parameters-gt0.false, sym c.by_seventh.ensures, c.if-by_seventh.true)
+    simp (rw (read w32 _ (interval (at_here))) at c.if-parameters-gt0.false, sym c.by_seventh.ensures, c.if-by_seventh.true)
 
 pub returns : goal.returns
 unfolding isha_asked_of
 returns c =
-    let angle = c.before.before.before.before in
-    let none = angle.before.before in
     simp (
       c.solar_hour.ensures,
       c.sine_number.ensures,
       c.new-angle.ensures,
-      rw (read w32 _ (interval none.before.before.before.before.before.before)) at none.if-parameters-gt0.false,
-      sym angle.by_seventh.ensures,
-      angle.if-by_seventh.false,
+      rw (read w32 _ (interval c.before.before.before.before.before.before)) at c.if-parameters-gt0.false,
+      sym c.by_seventh.ensures,
+      c.if-by_seventh.false,
     )
