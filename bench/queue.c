@@ -1,5 +1,5 @@
 /* Times a turn of a full print queue beside one of a ring, both by value:
-       rt staticlib katchidul
+       tools/build katchidul
        cc -O2 -Iinclude bench/queue.c target/staticlib/libkatchidul.a -o turns && ./turns */
 #include <stdio.h>
 #include <time.h>

@@ -88,6 +88,8 @@ def is_current(root, program, checked):
 
 def sources(root):
     yield root / "crates.txt"
-    for folder, _, files in os.walk(root / "crates"):
+    for folder, below, files in os.walk(root / "crates"):
+        # what rt itself writes
+        below[:] = [name for name in below if name != "out"]
         yield pathlib.Path(folder)
         yield from (pathlib.Path(folder) / file for file in files)

@@ -38,7 +38,7 @@ def prove(root, name, checked):
 def watched(root, name, log):
     """Runs rt, keeps what it says, and tells of each crate that is done. Returns rt's exit status."""
     progress = Progress(name, len(crates_below(root, name)))
-    with open(log, "wb") as kept, subprocess.Popen(["rt", "check", name], cwd=root, stdin=subprocess.DEVNULL, stdout=subprocess.PIPE,
+    with open(log, "wb") as kept, subprocess.Popen(["tools/build", name], cwd=root, stdin=subprocess.DEVNULL, stdout=subprocess.PIPE,
                                                    stderr=subprocess.STDOUT) as proof:
         try:
             for line in lines_of(proof.stdout):

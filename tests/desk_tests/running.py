@@ -1,4 +1,4 @@
-"""Proving, building and running the programs, in a checkout of its own with a stand-in for rt whose programs copy their input."""
+"""Proving, building and running the programs, in a checkout of its own with a stand-in for tools/build whose programs copy their input."""
 import os
 import pathlib
 import re
@@ -13,15 +13,15 @@ from .checks import ROOT, check
 
 # It reads its input, to show that the order is not there. It keeps an old program, as rt does if a change does not touch it. It counts its
 # runs, and is slow while the file `slow` is there.
-RT = """#!/bin/sh
-echo "fn $2::main: proved"
-echo "rt: $2 proved (1 s)" >&2
-echo "rt $*" >>proofs
+BUILD = """#!/bin/sh
+echo "fn $1::main: proved"
+echo "rt: $1 proved (1 s)" >&2
+echo "build $*" >>proofs
 cat
 [ ! -e slow ] || sleep 0.5
 [ ! -e fails ] || exit 1
 mkdir -p target/bin
-[ -x "target/bin/$2" ] || { printf '#!/bin/sh\\nexec cat\\n' >"target/bin/$2"; chmod +x "target/bin/$2"; }
+[ -x "target/bin/$1" ] || { printf '#!/bin/sh\\nexec cat\\n' >"target/bin/$1"; chmod +x "target/bin/$1"; }
 """
 # Every byte, and what a shell would change. A zero byte makes it an order.
 GIVEN = b"\1\0\4Pole\\n\\\n-n\n\r\n%s\t " + bytes(range(128, 256)) + b"\xff\0\n\n"
@@ -38,8 +38,12 @@ class Checkout:
         for name in PROGRAMS:
             self.touch("crates/%s/src/main.rt" % name)
         self.touch("crates.txt")
-        (self.bin / "rt").write_text(RT)
-        (self.bin / "rt").chmod(0o755)
+        self.build = self.root / "tools" / "build"
+        self.build.parent.mkdir()
+        self.build.write_text(BUILD)
+        self.build.chmod(0o755)
+        # The command asks only whether rt is there.
+        (self.bin / "rt").symlink_to(shutil.which("true"))
         # Only what the command and the stand-ins need is found, and no other rt.
         for command in ("sh", "dirname", "readlink", "cat", "sleep", "mkdir", "chmod"):
             (self.bin / command).symlink_to(shutil.which(command))
@@ -100,7 +104,7 @@ def proofs(checkout):
     check("a change whose proof fails", checkout.run("sheet")[:2], (2, b""))
     check("and it is tried again", (checkout.run("sheet")[:2], len(checkout.proofs())), ((2, b""), 5))
     (checkout.root / "fails").unlink()
-    check("each proves its own program", (checkout.run("wear")[:2], checkout.proofs()[-1]), ((0, GIVEN), "rt check wear"))
+    check("each proves its own program", (checkout.run("wear")[:2], checkout.proofs()[-1]), ((0, GIVEN), "build wear"))
     checkout.touch("crates.txt")
     (checkout.bin / "rt").unlink()
     status, printed, said = checkout.run("sheet")
@@ -122,7 +126,7 @@ def told(checkout, is_terminal):
     """What the command says while it proves three crates."""
     (checkout.root / "crates.txt").write_text("# ground\nprelude:\nother: prelude\nlines: prelude\nsheet: prelude lines io libc\n")
     (checkout.root / "says").write_text(SAYS)
-    (checkout.bin / "rt").write_text(RT.replace('echo "fn $2::main: proved"', "cat says").replace('echo "rt: $2 proved (1 s)" >&2\n', ""))
+    checkout.build.write_text(BUILD.replace('echo "fn $1::main: proved"', "cat says").replace('echo "rt: $1 proved (1 s)" >&2\n', ""))
     if not is_terminal:
         return checkout.run("sheet")[2]
     mine, its = os.openpty()
@@ -157,7 +161,7 @@ def progress_on_a_terminal(checkout):
 @in_checkout
 def nothing_to_prove(checkout):
     """A file is newer, but rt finds every crate as it was: nothing is said."""
-    (checkout.bin / "rt").write_text(RT.replace('echo "rt: $2 proved (1 s)"', 'echo "rt: $2 proved (unchanged since it was last proved)"'))
+    checkout.build.write_text(BUILD.replace('echo "rt: $1 proved (1 s)"', 'echo "rt: $1 proved (unchanged since it was last proved)"'))
     check("every crate as it was", checkout.run("sheet")[::2], (0, ""))
 
 

@@ -25,10 +25,10 @@ def archive(crate="katchidul"):
     """The path of a crate's archive. It is proved and built first if no variable names one."""
     named = os.environ.get(NAMED_BY[crate])
     if not named:
-        run("rt", "staticlib", crate)
+        run("tools/build", crate)
         named = "target/staticlib/lib%s.a" % crate
     if not (ROOT / named).is_file():
-        sys.exit("%s is not there; rt staticlib %s builds target/staticlib/lib%s.a" % (named, crate, crate))
+        sys.exit("%s is not there; tools/build %s builds target/staticlib/lib%s.a" % (named, crate, crate))
     return str(ROOT / named)
 
 

@@ -14,6 +14,8 @@ not_negative : (x : Float) (a c : ℕ) → HasValue x true a c → Above x → �
 unfolding lt
 not_negative (fin true m e) a c v h = false≢true h
 not_negative (fin false m e) a c v h = false≢true v.0
+not_negative nan a c v h = elim v [ ]
+not_negative (inf _) a c v h = elim v [ ]
 
 no_sign : (s : Bool) (E t : ℕ) → Above (of_fields binary64 s E t) → s ≡ false
 unfolding of_fields lt
@@ -79,6 +81,8 @@ value_root x w h v = go x v (positive_of_value x w (2 ^ 1074) v h)
         let whole : suc m * up e * 2 ^ 1200 ≡ w * 2 ^ 126 * down e =
         sym (mul_assoc (suc m * up e) (2 ^ 1074) (2 ^ 126)) ∙ ap (λ (z : ℕ). z * 2 ^ 126) v.1 ∙ mul_right_comm w (down e) (2 ^ 126) in
         ap rounded_root (ap (λ (z : ℕ). z / down e) whole ∙ mul-div_cancel (w * 2 ^ 126) (down_pos e))
+    go nan v p = elim v [ ]
+    go (inf _) v p = elim v [ ]
 
 -- ---- the branches of `sqrt`
 none : Above (of_fields binary64 false 0 0) → ⊥

@@ -4,7 +4,7 @@ use Rattle.prelude.proofs.Logic.{Ordering, Ordering·lt, Ordering·eq, Ordering�
 use Rattle.prelude.proofs.Logic.{lt_of_mul-lt-mul_right, mul_assoc, mul-pos, mul-div_cancel, mul-le-mul_right, div-add-mod', mod-lt, arith}
 use Rattle.prelude.proofs.Logic.{T, is_le, compare_is_eq, leb→le, nleb→lt, eqb→eq, eqb_refl, eqb, pow-add, pow_pos, pow_mono, shl_lt}
 use lib.Arith.{lt_of_le-ne}
-use Rattle.prelude.proofs.Ieee.{Float, fin, binary64, up, down, size, nearest, units, round, fits, to_bits, of_bits, size-lt, size-le}
+use Rattle.prelude.proofs.Ieee.{nan, inf, Float, fin, binary64, up, down, size, nearest, units, round, fits, to_bits, of_bits, size-lt, size-le}
 use Rattle.prelude.proofs.Ieee.{round_is, down_pos, closest, closest_same, HasValue, units_val, of_bits-to_bits}
 
 -- ---- the whole number nearest to a / b
@@ -81,6 +81,8 @@ pattern_is (fin false m e) s j lo hi v =
     tidy : (a b : ℕ) → 0 + a + b ≡ a + b
     tidy a b = omega arith
 pattern_is (fin true m e) s j lo hi v = absurd (true≢false v.0)
+pattern_is nan s j lo hi v = elim v [ ]
+pattern_is (inf _) s j lo hi v = elim v [ ]
 
 -- s has all 53 digits, and j is small enough: s * 2 ^ j is a float's size
 pub record FullWidth (s j : ℕ) : Type 0 where

@@ -3,7 +3,7 @@ use Rattle.prelude.proofs.Logic.{◌≡◌, sym, ap, ◌∙◌, subst, Bool, fal
 use Rattle.prelude.proofs.Logic.{lt_of_lt_of_le, not-le_of_lt, zero-mul, mul-one, mul_assoc, mul_right_comm, mul-pos, mul-le-mul_right}
 use Rattle.prelude.proofs.Logic.{mul-lt-mul_of_pos_right, lt_of_mul-lt-mul_right, eq_of_mul-eq-mul_right, arith, T, eqb, leb, ltb, leb→le}
 use Rattle.prelude.proofs.Logic.{ltb→lt, pos, negsuc, pow-add, pow_pos, pow_mono, pow-lt, shl_lt, and_l, and_r}
-use Rattle.prelude.proofs.Ieee.{Float, fin, binary64, up, down, size, fits, size-lt, size-le, size_reaches, down_pos, HasValue}
+use Rattle.prelude.proofs.Ieee.{nan, inf, Float, fin, binary64, up, down, size, fits, size-lt, size-le, size_reaches, down_pos, HasValue}
 
 pub record Written (a : ℕ) : Type 0 where
   pub digits : ℕ
@@ -52,6 +52,8 @@ written (fin s (suc m) (negsuc k)) a h v =
       is = down_to (suc m) a (suc k) 1074 (leb→le (2 ^ suc k) (2 ^ 1074) t.1) v.1;
       few = ltb→lt (suc m) (2 ^ 53) t.0;
     }
+written nan a h v = elim v [ ]
+written (inf _) a h v = elim v [ ]
 
 -- a significand q of at most 53 digits, moved up to 53
 pub record Widened (q : ℕ) : Type 0 where
@@ -101,3 +103,5 @@ bounded (fin s (suc m) e) a h v =
     mul-lt-mul_of_pos_right (ltb→lt (suc m * up e) (2 ^ 1024 * down e) t.2) (pow_pos 1074) in
     lt_of_mul-lt-mul_right (down e)
     (rw (← v.1) (subst (λ (z : ℕ). suc m * up e * 2 ^ 1074 < z) (mul_right_comm (2 ^ 1024) (down e) (2 ^ 1074)) less))
+bounded nan a h v = elim v [ ]
+bounded (inf _) a h v = elim v [ ]

@@ -56,6 +56,7 @@ pub(crate) fn cos_polynomial(x: f64, y: f64, z: f64, ix: u32) -> f64
 }
 
 // The cosine of x + y.
+#[tactic(auto, unfolding(crate::specs::KCos::kernel_cos_of))]
 pub fn kernel_cos(x: f64, y: f64) -> f64
     ensures { result ≡ kernel_cos_of x y }
 {

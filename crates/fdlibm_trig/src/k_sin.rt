@@ -37,6 +37,7 @@ pub(crate) fn sin_polynomial(x: f64, y: f64, z: f64, tail: bool) -> f64
 }
 
 // The sine of x + y.
+#[tactic(auto, unfolding(crate::specs::KSin::kernel_sin_of))]
 pub fn kernel_sin(x: f64, y: f64, tail: bool) -> f64
     ensures { result ≡ kernel_sin_of x y tail }
 {

@@ -21,6 +21,7 @@ pub struct Both {
 }
 
 // Sine and cosine of x + y on [-π/4, π/4]: the two kernels, with one test and one square for both.
+#[tactic(auto, unfolding(crate::specs::KSin::kernel_sin_of, crate::specs::KCos::kernel_cos_of))]
 fn kernels(x: f64, y: f64, tail: bool) -> Both
     ensures { result ≡ kernels_of x y tail }
 {

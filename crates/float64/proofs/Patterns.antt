@@ -8,8 +8,8 @@ use Rattle.float64.specs.Sizes.{abs_of}
 use Rattle.float64.specs.Words.{is_negative_of}
 
 -- what the test `x != x` says
-pub is_nan : (x : Float) → ne x x ≡ true → x ≡ nan
-is_nan x e = differs_from_itself x (rw e tt)
+pub is_nan_lem : (x : Float) → ne x x ≡ true → x ≡ nan
+is_nan_lem x e = differs_from_itself x (rw e tt)
 
 pub no_nan : (x : Float) → ne x x ≡ false → T (not (is_nan x))
 unfolding ne is_nan

@@ -178,6 +178,8 @@ pub inside : (P : Float → Type 0) (b : ℕ) (y : Float) → HasValue y false b
 unfolding lt of_bits
 inside P b y v g nan f h k = absurd (false≢true h)
 inside P b y v g (inf true) f h k = absurd (false≢true h)
+inside P b nan v g (inf false) f h k = elim v [ ]
+inside P b (inf _) v g (inf false) f h k = elim v [ ]
 inside P b (fin s n c) v g (inf false) f h k = absurd (false≢true k)
 inside P b y v g (fin true m e) f h k = absurd (false≢true h)
 inside P b y v g (fin false m e) f h k =

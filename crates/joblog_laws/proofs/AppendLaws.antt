@@ -86,16 +86,16 @@ module _ (log : List ℕ) (used tag page : ℕ) (second : List ℕ) where
   by-outcome s h (moved turn room) i = absurd (true≢false (sym i))
   by-outcome s h (placed turn room) i = record { says = s; held = h; turn = turn; room = room; is = refl }
 
-  in_place : in_place (append_of log used tag page second) ≡ true → Placed (append_of log used tag page second)
+  placed_there : in_place (append_of log used tag page second) ≡ true → Placed (append_of log used tag page second)
   unfolding append_of appended_of
-  in_place =
+  placed_there =
       log_cases log used second (λ x. appended_of x log used tag page second) (λ p. refl) (λ (c : LogCall). in_place c ≡ true → Placed c)
       (λ number place n m i. absurd (true≢false (sym i ∙ simp n))) (λ s h. by-outcome s h (said-outcome log used s tag page second))
 
 pub five_bytes_change : FiveBytesChange
 unfolding placedCall put_of
 five_bytes_change log used tag page second i =
-    let p = in_place log used tag page second i in
+    let p = placed_there log used tag page second i in
     let n = bytes_length tag page in
     let l : whole_of used + length (bytes_of tag page) ≡ whole_of used + 5 = omega arith in
     let put : put_of log (whole_of used) (bytes_of tag page) ≡ take (whole_of used) log ++ bytes_of tag page ++ drop (whole_of used + 5) log =
@@ -125,7 +125,7 @@ cut_read log used tag page second p k five false e =
 
 pub cut_at_any_byte : CutAtAnyByte
 cut_at_any_byte log used tag page second k i five =
-    cut_read log used tag page second (in_place log used tag page second i) k five (ltb k 5) refl
+    cut_read log used tag page second (placed_there log used tag page second i) k five (ltb k 5) refl
 
 -- bytes that are put over others at the same offset
 put_over : (buffer x y : List ℕ) (at : ℕ) → length x ≤ length y → at + length y ≤ length buffer
@@ -192,7 +192,7 @@ module _ (log : List ℕ) (used tag page : ℕ) (second : List ℕ) {c : LogCall
 pub next_takes_its_place : NextTakesItsPlace
 unfolding Same
 next_takes_its_place log used tag page second k i short tag' page' second' =
-    next-same log used tag page second (in_place log used tag page second i) k short tag' page' second'
+    next-same log used tag page second (placed_there log used tag page second i) k short tag' page' second'
 
 -- ---- room for the open pages
 NotShort : LogCall → Type 0

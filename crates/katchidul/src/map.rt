@@ -5,15 +5,13 @@ ghost use Rattle.map_form.specs.Written.{map_latitude_tag, map_longitude_tag, wr
 
 use map_form::writing::{Written, write_latitude, write_longitude};
 
-#[unsafe(no_mangle)]
-pub extern "C" fn katchidul_map_latitude(degrees: f64) -> Written
+pub fn katchidul_map_latitude(degrees: f64) -> Written
     ensures { result ≡ written_of map_latitude_tag most_latitude degrees }
 {
     write_latitude(degrees)
 }
 
-#[unsafe(no_mangle)]
-pub extern "C" fn katchidul_map_longitude(degrees: f64) -> Written
+pub fn katchidul_map_longitude(degrees: f64) -> Written
     ensures { result ≡ written_of map_longitude_tag most_longitude degrees }
 {
     write_longitude(degrees)

@@ -48,8 +48,7 @@ fn prayer_answer(answer: InForce) -> KatchidulPrayer
     }
 }
 
-#[unsafe(no_mangle)]
-pub extern "C" fn katchidul_prayer_at(
+pub fn katchidul_prayer_at(
     order: &[u8],
     row: u32,
     seconds: i64,
@@ -75,13 +74,7 @@ fn next_answer(answer: NextPrayer) -> KatchidulPrayer
     }
 }
 
-#[unsafe(no_mangle)]
-pub extern "C" fn katchidul_next_at(
-    order: &[u8],
-    row: u32,
-    seconds: i64,
-    nanoseconds: u32,
-) -> KatchidulPrayer
+pub fn katchidul_next_at(order: &[u8], row: u32, seconds: i64, nanoseconds: u32) -> KatchidulPrayer
     ensures { result ≡ next_answer_of (next_at_of order.now row (instant_of seconds nanoseconds)) }
 {
     next_answer(next_at(order, row, instant(seconds, nanoseconds)))

@@ -4,15 +4,13 @@ ghost use Rattle.queue.specs.Arrays.{joined_of, turned_of};
 
 use queue::{Joined, Queue, Turned, join, turn};
 
-#[unsafe(no_mangle)]
-pub extern "C" fn katchidul_join(queue: Queue, id: u32, pages: u32) -> Joined
+pub fn katchidul_join(queue: Queue, id: u32, pages: u32) -> Joined
     ensures { result ≡ joined_of queue id pages }
 {
     join(queue, id, pages)
 }
 
-#[unsafe(no_mangle)]
-pub extern "C" fn katchidul_turn(queue: Queue) -> Turned
+pub fn katchidul_turn(queue: Queue) -> Turned
     ensures { result ≡ turned_of queue }
 {
     turn(queue)

@@ -4,8 +4,7 @@ ghost use Rattle.order_numbers.specs.Numbers.{order_numbers_of};
 
 use order_numbers::numbers::{OrderNumbers, read_numbers};
 
-#[unsafe(no_mangle)]
-pub extern "C" fn katchidul_read_order(order: &[u8]) -> OrderNumbers
+pub fn katchidul_read_order(order: &[u8]) -> OrderNumbers
     ensures { result ≡ order_numbers_of order.now }
 {
     read_numbers(order)

@@ -33,8 +33,7 @@ fn remaining_answer(answer: TimeUntil) -> KatchidulRemaining
     }
 }
 
-#[unsafe(no_mangle)]
-pub extern "C" fn katchidul_remaining_at(
+pub fn katchidul_remaining_at(
     order: &[u8],
     row: u32,
     seconds: i64,

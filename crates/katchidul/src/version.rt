@@ -5,8 +5,7 @@ ghost use Rattle.katchidul.specs.Exports.{version};
 // KATCHIDUL_VERSION of include/katchidul.h: the major number times 65,536, plus the minor number.
 const VERSION: u32 = 0x1_0000;
 
-#[unsafe(no_mangle)]
-pub extern "C" fn katchidul_version() -> u32
+pub fn katchidul_version() -> u32
     ensures { result ≡ version }
 {
     VERSION

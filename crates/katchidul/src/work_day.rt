@@ -29,8 +29,7 @@ fn day_answer(worked: Worked) -> KatchidulDay
     }
 }
 
-#[unsafe(no_mangle)]
-pub extern "C" fn katchidul_work_day(order: &[u8], row: u32) -> KatchidulDay
+pub fn katchidul_work_day(order: &[u8], row: u32) -> KatchidulDay
     ensures { result ≡ day_got order.now row }
 {
     day_answer(work_day(order, row))

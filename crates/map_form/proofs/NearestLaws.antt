@@ -29,7 +29,7 @@ one_is_nearest a d b c h k =
     omega arith
   where
     below : {b c : ℕ} → Nearest a d b → Nearest a d c → 2 * (b * d) < 2 * (c * d) + 2 * d
-    below {b} {c} h k = omega (arith, h.not_above_lem, k.not_below, k.half_up_lem)
+    below {b} {c} h k = omega (arith, h.not_above, k.not_below, k.half_up)
 
 -- ---- the parts of n make n again
 whole : (sign n : ℕ) → size_of (parts_of sign n) ≡ n
@@ -87,8 +87,8 @@ owed tag most x =
     }
 
 -- parts in their limits with the same sign and the same count are the same
-parts_of : (most : ℕ) (f g : MapForm) → form_fits most f ≡ true → form_fits most g ≡ true → f.sign ≡ g.sign → size_of f ≡ size_of g → f ≡ g
-parts_of most f g p q s e =
+parts_of_lem : (most : ℕ) (f g : MapForm) → form_fits most f ≡ true → form_fits most g ≡ true → f.sign ≡ g.sign → size_of f ≡ size_of g → f ≡ g
+parts_of_lem most f g p q s e =
     let a = fits most f p in
     let b = fits most g q in
     let m : f.minutes ≡ g.minutes =
@@ -106,7 +106,7 @@ right_once nan most f g p q a b = absurd a
 right_once (inf s) most f g p q a b = absurd a
 right_once (fin s m e) most f g p q a b =
     let n = one_is_nearest (m * up e * in_degree) (down e) (size_of f) (size_of g) a.0 b.0 in
-    parts_of most f g p q (a.1 ∙ ap (λ (z : ℕ). sign_for z (cond s 1 0)) n ∙ sym b.1) n
+    parts_of_lem most f g p q (a.1 ∙ ap (λ (z : ℕ). sign_for z (cond s 1 0)) n ∙ sym b.1) n
 
 pub one_is_owed : OneIsOwed
 one_is_owed tag most x v w h k =

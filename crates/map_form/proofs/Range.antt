@@ -18,11 +18,11 @@ not_infinite nan n v = absurd v
 not_infinite (inf s) n v = absurd v
 not_infinite (fin s m e) n v = refl
 
-pub at_most : (x h : Float) (n : ℕ) → HasValue h false n 1 → le (abs_of x) h ≡ at_most n x
+pub at_most_lem : (x h : Float) (n : ℕ) → HasValue h false n 1 → le (abs_of x) h ≡ at_most n x
 unfolding abs_of at_most
-at_most nan h n v = unfold le lt eq in refl
-at_most (inf s) h n v = not_infinite h n v
-at_most (fin s m e) h n v =
+at_most_lem nan h n v = unfold le lt eq in refl
+at_most_lem (inf s) h n v = not_infinite h n v
+at_most_lem (fin s m e) h n v =
     same (le (fin false m e) h) (leb (m * up e) (n * down e))
     (λ t. let w = under_value (fin false m e) h n 1 (lit< tt) refl v t in le→leb (m * up e) (n * down e) (omega arith))
     (λ t. let w = leb→le (m * up e) (n * down e) t in

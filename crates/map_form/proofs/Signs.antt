@@ -14,17 +14,17 @@ pub some : (s : Bool) (n : ℕ) → (n ≡ 0 → ⊥) → cond s 1 0 ≡ sign_fo
 some s zero e = absurd (e refl)
 some s (suc n) e = refl
 
-form_of : (s : Bool) (n : ℕ) → parts_of (sign_for n (cond s 1 0)) n ≡ form_of (signed s n)
-form_of true zero = refl
-form_of true (suc n) = refl
-form_of false zero = refl
-form_of false (suc n) = refl
+form_of_lem : (s : Bool) (n : ℕ) → parts_of (sign_for n (cond s 1 0)) n ≡ form_of (signed s n)
+form_of_lem true zero = refl
+form_of_lem true (suc n) = refl
+form_of_lem false zero = refl
+form_of_lem false (suc n) = refl
 
 module _ (tag most : ℕ) (x : Float) where
   pub inside : (n sign : ℕ) → at_most most x ≡ true → n ≡ hundredths_of x → sign ≡ sign_for n (cond (is_negative_of x) 1 0)
       → record { refusal = no_refusal; form = parts_of sign n } ≡ written_of tag most x
   unfolding written_of
-  inside n sign h e s = rw (h, s, e, form_of (is_negative_of x) (hundredths_of x))
+  inside n sign h e s = rw (h, s, e, form_of_lem (is_negative_of x) (hundredths_of x))
 
   pub outside : at_most most x ≡ false → record { refusal = refusal 5 tag; form = no_parts } ≡ written_of tag most x
   unfolding written_of

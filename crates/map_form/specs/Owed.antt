@@ -19,9 +19,9 @@ no_parts = record { sign = 0; degrees = 0; minutes = 0; seconds = 0; hundredths 
 
 -- c is at most a half from a / d, and not a half below it: 2 * |a / d - c| ≤ 1 with the denominators multiplied out
 pub record Nearest (a d c : ℕ) : Type 0 where
-  pub not_above_lem : 2 * (c * d) ≤ 2 * a + d
+  pub not_above : 2 * (c * d) ≤ 2 * a + d
   pub not_below : 2 * a ≤ 2 * (c * d) + d
-  pub half_up_lem : 2 * a ≡ 2 * (c * d) + d → ⊥
+  pub half_up : 2 * a ≡ 2 * (c * d) + d → ⊥
 
 -- x is finite. The parts are the hundredths nearest to the size of its exact value; a half goes away from zero. The sign is x's, or 0 for
 -- a zero

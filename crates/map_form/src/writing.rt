@@ -38,6 +38,7 @@ fn no_parts() -> MapForm
 }
 
 // The sign of x as it is written with n hundredths: 0 for a zero.
+#[tactic(auto, using(crate::proofs::Signs::naught, crate::proofs::Signs::some))]
 fn sign_of(x: f64, n: u64) -> u32
     ensures { result ≡ sign_for n (cond (is_negative_of x) 1 0) }
 {

@@ -66,8 +66,8 @@ impl Adjustment {
     }
 
     pub fn fajr(self, fajr: i32) -> Adjustment
-        ensures { result ≡ builder_of (six_minutes_of fajr self.minutes.sunrise self.minutes.dhuhr self.minutes.asr
-            self.minutes.maghrib self.minutes.isha) }
+        ensures { result
+            ≡ builder_of (six_minutes_of fajr self.minutes.sunrise self.minutes.dhuhr self.minutes.asr self.minutes.maghrib self.minutes.isha) }
     {
         let mut minutes = self.minutes;
         minutes.fajr = fajr;
@@ -75,8 +75,8 @@ impl Adjustment {
     }
 
     pub fn sunrise(self, sunrise: i32) -> Adjustment
-        ensures { result ≡ builder_of (six_minutes_of self.minutes.fajr sunrise self.minutes.dhuhr self.minutes.asr
-            self.minutes.maghrib self.minutes.isha) }
+        ensures { result
+            ≡ builder_of (six_minutes_of self.minutes.fajr sunrise self.minutes.dhuhr self.minutes.asr self.minutes.maghrib self.minutes.isha) }
     {
         let mut minutes = self.minutes;
         minutes.sunrise = sunrise;
@@ -84,8 +84,8 @@ impl Adjustment {
     }
 
     pub fn dhuhr(self, dhuhr: i32) -> Adjustment
-        ensures { result ≡ builder_of (six_minutes_of self.minutes.fajr self.minutes.sunrise dhuhr self.minutes.asr
-            self.minutes.maghrib self.minutes.isha) }
+        ensures { result
+            ≡ builder_of (six_minutes_of self.minutes.fajr self.minutes.sunrise dhuhr self.minutes.asr self.minutes.maghrib self.minutes.isha) }
     {
         let mut minutes = self.minutes;
         minutes.dhuhr = dhuhr;
@@ -93,8 +93,8 @@ impl Adjustment {
     }
 
     pub fn asr(self, asr: i32) -> Adjustment
-        ensures { result ≡ builder_of (six_minutes_of self.minutes.fajr self.minutes.sunrise self.minutes.dhuhr asr
-            self.minutes.maghrib self.minutes.isha) }
+        ensures { result
+            ≡ builder_of (six_minutes_of self.minutes.fajr self.minutes.sunrise self.minutes.dhuhr asr self.minutes.maghrib self.minutes.isha) }
     {
         let mut minutes = self.minutes;
         minutes.asr = asr;
@@ -102,8 +102,8 @@ impl Adjustment {
     }
 
     pub fn maghrib(self, maghrib: i32) -> Adjustment
-        ensures { result ≡ builder_of (six_minutes_of self.minutes.fajr self.minutes.sunrise self.minutes.dhuhr
-            self.minutes.asr maghrib self.minutes.isha) }
+        ensures { result
+            ≡ builder_of (six_minutes_of self.minutes.fajr self.minutes.sunrise self.minutes.dhuhr self.minutes.asr maghrib self.minutes.isha) }
     {
         let mut minutes = self.minutes;
         minutes.maghrib = maghrib;
@@ -111,8 +111,8 @@ impl Adjustment {
     }
 
     pub fn isha(self, isha: i32) -> Adjustment
-        ensures { result ≡ builder_of (six_minutes_of self.minutes.fajr self.minutes.sunrise self.minutes.dhuhr
-            self.minutes.asr self.minutes.maghrib isha) }
+        ensures { result
+            ≡ builder_of (six_minutes_of self.minutes.fajr self.minutes.sunrise self.minutes.dhuhr self.minutes.asr self.minutes.maghrib isha) }
     {
         let mut minutes = self.minutes;
         minutes.isha = isha;

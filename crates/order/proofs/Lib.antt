@@ -4,3 +4,4 @@ pub mod ReadingLaws
 pub mod RowDates
 pub mod AcceptedLaws
 pub mod Answers
+pub mod OutOfRange

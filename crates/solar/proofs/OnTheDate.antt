@@ -21,6 +21,14 @@ module _ (P : Float → Type 0) (a b : ℕ) (low high : Float) (v : HasValue low
       go (inf false) low (fin s m e) v w h k = absurd (false≢true k)
       go (fin true m e) (fin true n d) high v w h k = absurd (true≢false v.0)
       go (fin true m e) (fin false n d) high v w h k = absurd (false≢true h)
+      go nan nan high v w h k = elim v [ ]
+      go nan (inf _) high v w h k = elim v [ ]
+      go (inf false) low nan v w h k = elim w [ ]
+      go (inf false) low (inf _) v w h k = elim w [ ]
+      go (inf true) nan high v w h k = elim v [ ]
+      go (inf true) (inf _) high v w h k = elim v [ ]
+      go (fin true m e) nan high v w h k = elim v [ ]
+      go (fin true m e) (inf _) high v w h k = elim v [ ]
       go (fin false m e) low high v w h k =
           let l = ltb-true (a * down e) (m * up e * 1)
           (sym (lt_values low (fin false m e) a (m * up e) 1 (down e) (lit< tt) (down_pos e) v (refl, refl)) ∙ h) in

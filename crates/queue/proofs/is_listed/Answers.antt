@@ -8,7 +8,7 @@ pub returns-then-ids-i : goal.returns-then-ids-i
 returns-then-ids-i c =
     let start = c.before.before.before in
     let i = c.loop-i.i in
-    let a = start.args.t1 in
+    let a = start.args.ids in
     let e : length a ≡ 16 = search rules in
     let f = listed_first start.args.id a i start.args.n e c.loop-i-test.true start.requires in
     sym (c.loop-i.invariant.1 ∙ rw (f, eq-eqb _ _ c.if-ids-i.true))
@@ -17,7 +17,7 @@ pub loop-i-preserved : goal.loop-i-preserved
 loop-i-preserved c =
     let start = c.before.before.before in
     let i = c.loop-i.i in
-    let a = start.args.t1 in
+    let a = start.args.ids in
     let e : length a ≡ 16 = search rules in
     let f = listed_first start.args.id a i start.args.n e c.loop-i-test.true start.requires in
     (omega arith, c.loop-i.invariant.1 ∙ f ∙ rw (ne_eqb _ _ c.if-ids-i.false))

@@ -5,13 +5,13 @@ use Rattle.queue.specs.Arrays.{padded}
 use Rattle.queue.proofs.part.Goals as goal
 
 pub loop-i-init : goal.loop-i-init
-loop-i-init c = (omega arith, c.requires.0, sym (ap padded (slice_empty c.args.from c.args.t1)))
+loop-i-init c = (omega arith, c.requires.0, sym (ap padded (slice_empty c.args.from c.args.a)))
 
 pub loop-i-preserved : goal.loop-i-preserved
 loop-i-preserved c =
     let start = c.before.before in
     let i = c.loop-i.i in
-    let a = start.args.t1 in
+    let a = start.args.a in
     let e : length a ≡ 16 = search rules in
     let inv = c.loop-i.invariant in
     (omega arith, omega arith, rw inv.2 (part_more a start.args.from i e inv.0 (omega arith)))

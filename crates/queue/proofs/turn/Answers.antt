@@ -5,14 +5,14 @@ use Rattle.prelude.proofs.Logic.{rules}
 use Rattle.queue.proofs.turn.Goals as goal
 use Rattle.queue.proofs.turn.Goals.{Start}
 
-whole : (t : Start) → Whole t.args.t1
+whole : (t : Start) → Whole t.args.queue
 whole t = record { ids = search rules; pages = search rules }
 
 pub returns-then-n-eq0 : goal.returns-then-n-eq0
 returns-then-n-eq0 c =
     let n = c.count-n in
     let start = c.before.before in
-    turn-empty start.args.t1 (whole start) n.result n.ensures.0 c.if-n-eq0.true
+    turn-empty start.args.queue (whole start) n.result n.ensures.0 c.if-n-eq0.true
 
 pub returns-then-pages-le1 : goal.returns-then-pages-le1
 returns-then-pages-le1 c =
@@ -20,7 +20,7 @@ returns-then-pages-le1 c =
     let n = at-lined.count-n in
     let start = at-lined.before.before.before.before.before in
     rw at-lined.lined-rest.ensures.0
-    (turn-leaves start.args.t1 (whole start) n.result n.ensures.0 (search rules) c.if-pages-le1.true)
+    (turn-leaves start.args.queue (whole start) n.result n.ensures.0 (search rules) c.if-pages-le1.true)
 
 pub returns : goal.returns
 returns c =
@@ -28,4 +28,4 @@ returns c =
     let n = at-lined.count-n in
     let start = at-lined.before.before.before.before.before in
     rw (c.with_last-q.ensures, at-lined.lined-rest.ensures.0)
-    (turn-back start.args.t1 (whole start) n.result n.ensures.0 (search rules) c.if-pages-le1.false)
+    (turn-back start.args.queue (whole start) n.result n.ensures.0 (search rules) c.if-pages-le1.false)

@@ -1,4 +1,4 @@
-use Rattle.prelude.proofs.Logic.{◌≡◌, sym, arith, rules, le-ltb}
+use Rattle.prelude.proofs.Logic.{◌≡◌, sym, arith, rules}
 use Rattle.calendar.specs.Days.{days_before_of}
 use Rattle.calendar.proofs.MonthTables.{before_none, before_past}
 use Rattle.calendar.proofs.months.days_before.Goals as goal
@@ -13,8 +13,8 @@ returns-then-month-gt12 c = let s = c.before.before in sym (before_past s.args.l
 
 pub returns-then-leap : goal.returns-then-leap
 unfolding days_before_of
-returns-then-leap c = simp (c.if-leap.true, le-ltb _ _ c.if-month-gt12.false, le-ltb _ _ c.if-month-lt1.false)
+returns-then-leap c = simp c.if-leap.true
 
 pub returns-else-leap : goal.returns-else-leap
 unfolding days_before_of
-returns-else-leap c = simp (c.if-leap.false, le-ltb _ _ c.if-month-gt12.false, le-ltb _ _ c.if-month-lt1.false)
+returns-else-leap c = simp c.if-leap.false

@@ -1,7 +1,8 @@
 -- The loop keeps `Kept`. After the 54th turn it says that q is the root.
-use Rattle.prelude.proofs.Logic.{refl, ⊎_elim, ◌-◌, arith, lit<, lit≤, rules}
+use Rattle.prelude.proofs.Logic.{refl, arith, lit<, lit≤}
 use Rattle.fdlibm_root.proofs.Squares.{Kept, next_one, next-none, last}
 use Rattle.fdlibm_root.proofs.digits.root.Goals as goal
+use Rattle.fdlibm_root.proofs.digits.root.Goals.{then-q-p, else-q-p}
 
 pub loop-i-init : goal.loop-i-init
 loop-i-init c =
@@ -10,11 +11,10 @@ loop-i-init c =
 pub loop-i-preserved : goal.loop-i-preserved
 loop-i-preserved c =
     let m = c.args.m in let l = c.loop-i in let t = c.loop-i-test.true in
-    ⊎_elim (λ w. rw (w.1, w.2) (next_one m l.q l.false l.rest l.i _ l.invariant t refl w.0.taken))
-    (λ w. rw (w.1, w.2) (next-none m l.q l.false l.rest l.i _ l.invariant t refl w.0.left))
-    c.if-q-p.came
+    elim c.if-q-p.branch [ then-q-p w ↦ rw (w.left-is, w.q-is) (next_one m l.q l.left l.rest l.i _ l.invariant t refl w.if-q-p.true)
+                         | else-q-p w ↦ rw (w.left-is, w.q-is) (next-none m l.q l.left l.rest l.i _ l.invariant t refl w.if-q-p.false) ]
 
 pub returns : goal.returns
 returns c =
     let l = c.loop-i in
-    (last c.args.m l.q l.false l.rest l.i l.invariant c.loop-i-test.false, l.invariant.small)
+    (last c.args.m l.q l.left l.rest l.i l.invariant c.loop-i-test.false, l.invariant.small)

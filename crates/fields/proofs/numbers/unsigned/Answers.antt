@@ -15,3 +15,7 @@ returns-else-at-bytes c =
       value = simp (low, high);
       upper_bound = search rules;
     }
+
+pub returns-then-at-bytes-clause-value : goal.returns-then-at-bytes-clause-value
+unfolding unsigned_of
+returns-then-at-bytes-clause-value c = simp (c.byte.ensures.value, c.byte-then-at-bytes.ensures.value)

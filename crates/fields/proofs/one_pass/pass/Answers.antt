@@ -7,34 +7,27 @@ use Rattle.fields.proofs.FieldsLaws.{Good, fault_cut, fault_none, good_row, good
 use Rattle.fields.proofs.Collecting.{Collecting, seen_in, seen_collected, collect_first, fault_is, refused-here, nothing-refused}
 use Rattle.fields.proofs.Collecting.{collected-on, collected-all, check_walk, checked_not, checked_all}
 use Rattle.fields.proofs.one_pass.pass.Goals as goal
-use Rattle.fields.proofs.one_pass.pass.Goals.{After-fault-number, In-loop-at, Start}
-
--- the state at the field's offset, and before it that of the loop's start and of the function's
-abbrev in-loop : After-fault-number → In-loop-at
-in-loop f = f.before.before.before.before.before.before
-
-abbrev start : After-fault-number → Start
-start f = (in-loop f).before.before.before
+use Rattle.fields.proofs.one_pass.pass.Goals.{After-fault-number}
 
 size-here : (f : After-fault-number)
-    → f.unsigned-length.result ≡ length_at (start f).args.order.now (in-loop f).loop-at.at
+    → f.unsigned-length.result ≡ length_at f.args.order.now f.loop-at.at
 unfolding length_at
 size-here f = f.unsigned-length.ensures.value
 
 -- the refusal of the field is the definition's
-fault-holds : (f : After-fault-number) → let l = (in-loop f).loop-at in
-    f.fault-number.result ≡ fault_of (start f).args.order.now (seen_in l.starts) l.at
+fault-holds : (f : After-fault-number) → let l = f.loop-at in
+    f.fault-number.result ≡ fault_of f.args.order.now (seen_in l.starts) l.at
 fault-holds f =
     let tag = f.byte-tag in
-    let l = (in-loop f).loop-at in
-    fault_is (start f).args.order.now l.at (seen_in l.starts) tag.result f.unsigned-length.result
+    let l = f.loop-at in
+    fault_is f.args.order.now l.at (seen_in l.starts) tag.result f.unsigned-length.result
     f.fault-number.result f.collected.result tag.ensures.value (size-here f)
     (f.collected.ensures ∙ seen_collected l.starts tag.result) f.fault-number.ensures
 
-good : (f : After-fault-number) → f.fault-number.result ≡ 0 → Good (start f).args.order.now (in-loop f).loop-at.at
+good : (f : After-fault-number) → f.fault-number.result ≡ 0 → Good f.args.order.now f.loop-at.at
 good f none =
-    let l = (in-loop f).loop-at in
-    (fault_none (start f).args.order.now (seen_in l.starts) l.at (sym (fault-holds f) ∙ none)).0
+    let l = f.loop-at in
+    (fault_none f.args.order.now (seen_in l.starts) l.at (sym (fault-holds f) ∙ none)).0
 
 pub loop-at-init : goal.loop-at-init
 loop-at-init c = collect_first c.args.order.now
@@ -56,26 +49,26 @@ slice_bounds-collected-end c = sym c.loop-at.invariant.sizes.0
 
 pub returns-then-number-ne0 : goal.returns-then-number-ne0
 returns-then-number-ne0 c =
-    let f = c.before.before in
-    let l = (in-loop f).loop-at in
-    let s = (start f).args.order.now in
+    let f = (goal.at.returns-then-number-ne0 c).After-fault-number in
+    let l = f.loop-at in
+    let s = f.args.order.now in
     let e = fault-holds f in
     let stop =
-    refused-here s l.at l.starts l.lengths l.invariant (in-loop f).loop-at-test.true (λ z. c.if-number-ne0.true (e ∙ z)) in
+    refused-here s l.at l.starts l.lengths l.invariant f.loop-at-test.true (λ z. c.if-number-ne0.true (e ∙ z)) in
     c.refused-then-number-ne0.ensures
-    ∙ checked_not s f.fault-number.result l.at (check_walk s (start f).requires ∙ stop ∙ ap (λ (n : ℕ). refusal n l.at) (sym e))
+    ∙ checked_not s f.fault-number.result l.at (check_walk s f.requires ∙ stop ∙ ap (λ (n : ℕ). refusal n l.at) (sym e))
     c.if-number-ne0.true
 
 pub bounds-starts-tag : goal.bounds-starts-tag
 bounds-starts-tag c =
-    let f = c.before in
+    let f = (goal.at.bounds-starts-tag c).After-fault-number in
     rw f.byte-tag.ensures.value
-    (good_row (start f).args.order.now (in-loop f).loop-at.at (good f c.if-number-ne0.false))
+    (good_row f.args.order.now f.loop-at.at (good f c.if-number-ne0.false))
 
 pub overflow_cast-lengths : goal.overflow_cast-lengths
 overflow_cast-lengths c =
-    let f = c.before in
-    let n = good_short (start f).args.order.now (in-loop f).loop-at.at (good f c.if-number-ne0.false) in
+    let f = (goal.at.overflow_cast-lengths c).After-fault-number in
+    let n = good_short f.args.order.now f.loop-at.at (good f c.if-number-ne0.false) in
     omega (arith, n, size-here f)
 
 pub bounds-lengths-tag : goal.bounds-lengths-tag
@@ -83,10 +76,10 @@ bounds-lengths-tag c = bounds-starts-tag c
 
 pub loop-at-preserved : goal.loop-at-preserved
 loop-at-preserved c =
-    let f = c.before in
-    let l = (in-loop f).loop-at in
+    let f = (goal.at.loop-at-preserved c).After-fault-number in
+    let l = f.loop-at in
     rw (f.byte-tag.ensures.value, size-here f)
-    (collected-on (start f).args.order.now l.at l.starts l.lengths l.invariant (in-loop f).loop-at-test.true
+    (collected-on f.args.order.now l.at l.starts l.lengths l.invariant f.loop-at-test.true
     (sym (fault-holds f) ∙ c.if-number-ne0.false))
 
 pub returns : goal.returns

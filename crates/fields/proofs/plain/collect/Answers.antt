@@ -24,12 +24,12 @@ loop-at-init c =
 
 pub bounds-starts-tag : goal.bounds-starts-tag
 bounds-starts-tag c =
-    let t = c.before.before in
+    let t = (goal.at.bounds-starts-tag c).In-loop-at in
     rw c.byte-tag.ensures.value (good_row t.args.order.now t.loop-at.at (good t))
 
 pub overflow_cast-lengths : goal.overflow_cast-lengths
 overflow_cast-lengths c =
-    let t = c.before.before in
+    let t = (goal.at.overflow_cast-lengths c).In-loop-at in
     let n = good_short t.args.order.now t.loop-at.at (good t) in
     omega (arith, n, c.length_at-length.ensures.value)
 
@@ -38,7 +38,7 @@ bounds-lengths-tag c = bounds-starts-tag c
 
 pub loop-at-preserved : goal.loop-at-preserved
 loop-at-preserved c =
-    let t = c.before.before in
+    let t = (goal.at.loop-at-preserved c).In-loop-at in
     let l = t.loop-at in
     rw (c.byte-tag.ensures.value, c.length_at-length.ensures.value) (
       collected-on t.args.order.now l.at l.starts l.lengths l.invariant.0 t.loop-at-test.true

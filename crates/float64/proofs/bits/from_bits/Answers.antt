@@ -1,4 +1,4 @@
-use Rattle.prelude.proofs.Logic.{◌≡◌, refl, sym, subst, ◌∙◌, Bool, true, not, ◌%◌, T, rules, le-ltb, lt-ltb}
+use Rattle.prelude.proofs.Logic.{◌≡◌, refl, sym, subst, ◌∙◌, Bool, true, not, ◌%◌, T, le-ltb, lt-ltb}
 use Rattle.prelude.proofs.Ieee.{Float, nan, inf, fin, binary64, of_bits, is_nan, nan_bits_above, nan_bits_is}
 use Rattle.float64.proofs.bits.from_bits.Goals as goal
 

@@ -1,4 +1,4 @@
-use Rattle.prelude.proofs.Logic.{rules, w32}
+use Rattle.prelude.proofs.Logic.{w32}
 use Rattle.float64.proofs.Saturate.{above, top, below, bottom, minus-fits}
 use Rattle.float64.proofs.casts.to_i32.Goals as goal
 

@@ -1,4 +1,4 @@
-use Rattle.prelude.proofs.Logic.{rules, w64}
+use Rattle.prelude.proofs.Logic.{w64}
 use Rattle.float64.proofs.Saturate.{above, top, below, bottom, minus-fits}
 use Rattle.float64.proofs.casts.to_i64.Goals as goal
 

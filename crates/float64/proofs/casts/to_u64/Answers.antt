@@ -38,7 +38,7 @@ returns-then-x-2 c = rw (small c.before).1.0 refl
 
 pub truncating_f64_to_u64-requires : goal.truncating_f64_to_u64-requires
 unfolding of_bits
-truncating_f64_to_u64-requires c = (above_minus_one c.args.x c.if-x.true, subst T (sym c.if-x-3.true) tt)
+truncating_f64_to_u64-requires c = record { lower_bound = above_minus_one c.args.x c.if-x.true; upper_bound = subst T (sym c.if-x-3.true) tt }
 
 pub returns-then-x-3 : goal.returns-then-x-3
 unfolding of_bits

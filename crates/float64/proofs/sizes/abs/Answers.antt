@@ -1,7 +1,7 @@
 use Rattle.prelude.proofs.Logic.{sym, ap, ◌∙◌, ◌%◌, arith}
 use Rattle.prelude.proofs.Ieee.{fits, binary64, to_bits, passes}
 use Rattle.float64.specs.Sizes.{abs_of}
-use Rattle.float64.proofs.Patterns.{is_nan, no_nan, no_larger, size_bits}
+use Rattle.float64.proofs.Patterns.{is_nan_lem, no_nan, no_larger, size_bits}
 use Rattle.float64.proofs.sizes.abs.Goals as goal
 
 pub float_to_bits-result : goal.float_to_bits-result
@@ -17,7 +17,7 @@ float_from_bits-result c =
 
 pub returns-then-x : goal.returns-then-x
 unfolding abs_of
-returns-then-x c = let e = is_nan c.args.x c.if-x.true in e ∙ sym (ap abs_of e)
+returns-then-x c = let e = is_nan_lem c.args.x c.if-x.true in e ∙ sym (ap abs_of e)
 
 pub returns-else-x : goal.returns-else-x
 unfolding abs_of

@@ -1,4 +1,3 @@
-use Rattle.prelude.proofs.Logic.{rules}
 use Rattle.prelude.proofs.Ieee.{fits, binary64, passes}
 use Rattle.float64.proofs.Parts.{still_far}
 use Rattle.float64.proofs.Steps.{half_up_at}

@@ -1,4 +1,3 @@
-use Rattle.prelude.proofs.Logic.{rules}
 use Rattle.prelude.proofs.Ieee.{passes}
 use Rattle.float64.proofs.Parts.{still_far}
 use Rattle.float64.proofs.Steps.{upper_at}

@@ -1,7 +1,7 @@
 use Rattle.prelude.proofs.Logic.{refl, sym, ap, ◌∙◌, ◌/◌, ◌*◌, arith}
 use Rattle.prelude.proofs.Ieee.{fits, binary64, to_bits, of_bits, to_bits-lt, passes}
 use Rattle.float64.specs.Words.{low_cleared_of}
-use Rattle.float64.proofs.Patterns.{is_nan, no_nan, no_larger}
+use Rattle.float64.proofs.Patterns.{is_nan_lem, no_nan, no_larger}
 use Rattle.float64.proofs.words.cut.Goals as goal
 
 pub float_to_bits-result : goal.float_to_bits-result
@@ -22,7 +22,7 @@ float_from_bits-result c =
 
 pub returns-then-x : goal.returns-then-x
 unfolding low_cleared_of to_bits of_bits
-returns-then-x c = c.not_a_number.ensures ∙ sym (ap low_cleared_of (is_nan c.args.x c.if-x.true))
+returns-then-x c = c.not_a_number.ensures ∙ sym (ap low_cleared_of (is_nan_lem c.args.x c.if-x.true))
 
 pub returns-else-x : goal.returns-else-x
 unfolding low_cleared_of to_bits of_bits

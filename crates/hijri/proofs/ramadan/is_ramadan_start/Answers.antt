@@ -6,7 +6,6 @@ use Rattle.hijri.specs.Ramadan.{ramadan_start_of}
 use Rattle.hijri.proofs.RamadanStart.{far-below, far-above, less_fits, shift-read}
 use Rattle.hijri.proofs.ramadan.is_ramadan_start.Goals as goal
 
--- the need of the difference is given by its position, not by its name: an edit that adds the shift is then refused by what it says
 pub returns-then-day-lt-LONG_BEFORE : goal.returns-then-day-lt-LONG_BEFORE
 returns-then-day-lt-LONG_BEFORE c = far-below _ c.ranges.day _ c.ranges.shift c.if-day-lt-LONG_BEFORE.true
 

@@ -6,7 +6,8 @@ use Rattle.joblog.proofs.calls.append.Goals as goal
 pub returns-then-used-log : goal.returns-then-used-log
 unfolding append_of
 returns-then-used-log c =
-    let both = simp (lt-leb _ _ c.if-used-log.true) (c.refuse.ensures, (refl, refl)) in record { value = both.0; log_after = both.1; second_after = both.2 }
+    let over = lt-leb _ _ c.if-used-log.true in
+    record { value = simp over c.refuse.ensures; log_after = simp over; second_after = simp over }
 
 pub slice_bounds-scan-end-2 : goal.slice_bounds-scan-end-2
 unfolding append_of
@@ -15,7 +16,10 @@ slice_bounds-scan-end-2 c = let a = c.args in sym (length-take-le a.used a.log.n
 pub returns : goal.returns
 unfolding append_of
 returns c =
-    let at-append = c.before.before.before.before in let at-scan = at-append.before.before.before in
-    let a = at-scan.args in
-    
-    let both = simp (le-leb a.used (length a.log.now) (omega arith), ← at-scan.scan-reading.ensures.0) at-append.append_read.ensures in record { value = both.0; log_after = both.1; second_after = both.2 }
+    let a = c.args in let within = le-leb a.used (length a.log.now) (omega arith) in let e = c.append_read.ensures in
+    let read = c.scan-reading.ensures.0 in
+    record {
+      value = simp (within, ← read) e.value;
+      log_after = simp (within, ← read) e.log_after;
+      second_after = simp (within, ← read) e.second_after;
+    }

@@ -25,4 +25,8 @@ returns c =
     let any = restarted_any read.result a.log.now a.count a.second.now in
     let w = c.restart_read.ensures in
     
-    let both = simp (le-leb a.used (length a.log.now) (omega arith), ← read.ensures.0) (w.0 ∙ any.0, w.1 ∙ any.1) in record { value = both.0; second_after = both.1 }
+    let within = le-leb a.used (length a.log.now) (omega arith) in let says = read.ensures.0 in
+    record {
+      value = simp (within, ← says) (w.value ∙ any.0);
+      second_after = simp (within, ← says) (w.second_after ∙ any.1);
+    }

@@ -9,7 +9,7 @@ pub returns-then-lapsed_days-days_in_year : goal.returns-then-lapsed_days-days_i
 unfolding days_since_solstice_of dec round of_bits
 returns-then-lapsed_days-days_in_year c =
     simp (
-      sym c.wrapping_add_u32-lapsed_days.ensures,
+      sym c.wrapping_add_u32-lapsed_days.ensures.value,
       sym c.days_in_year-days_in_year.ensures,
       c.if-latitude.true,
       le-leb _ _ c.if-lapsed_days-days_in_year.true,
@@ -19,7 +19,7 @@ pub returns-else-lapsed_days-days_in_year : goal.returns-else-lapsed_days-days_i
 unfolding days_since_solstice_of dec round of_bits
 returns-else-lapsed_days-days_in_year c =
     simp (
-      sym c.wrapping_add_u32-lapsed_days.ensures,
+      sym c.wrapping_add_u32-lapsed_days.ensures.value,
       sym c.days_in_year-days_in_year.ensures,
       c.if-latitude.true,
       lt-leb _ _ c.if-lapsed_days-days_in_year.false,
@@ -28,11 +28,10 @@ returns-else-lapsed_days-days_in_year c =
 pub returns-else-latitude : goal.returns-else-latitude
 unfolding days_since_solstice_of dec round of_bits
 returns-else-latitude c =
-    let a = c.before.before.before.before.before in
     let r = c.wrapping_sub_u32-lapsed_days.result in
     let o = c.southern_offset.ensures in
     let d = c.days_in_year-days_in_year.ensures in
     let fits : r < 4294967296 = search rules in
-    let sub = ap (λ (n : ℕ). (r + n) % 4294967296) (sym o) ∙ c.wrapping_sub_u32-lapsed_days.ensures in
-    simp c.if-latitude.false (c.wrapping_add_u32.ensures ∙ ap (λ (n : ℕ). (r + n) % 4294967296) d
-    ∙ wrapped r a.args.day-of-year a.args.year fits a.ranges.day-of-year.fits sub)
+    let sub = ap (λ (n : ℕ). (r + n) % 4294967296) (sym o) ∙ c.wrapping_sub_u32-lapsed_days.ensures.value in
+    simp c.if-latitude.false (c.wrapping_add_u32.ensures.value ∙ ap (λ (n : ℕ). (r + n) % 4294967296) d
+    ∙ wrapped r c.args.day_of_year c.args.year fits c.ranges.day_of_year.fits sub)

@@ -8,13 +8,11 @@ use Rattle.ops.proofs.season.season_adjusted_evening_twilight.Goals as goal
 
 pub returns : goal.returns
 returns c =
-    let s = c.before.before in
-    let t = s.before.before in
-    let seconds : read_back w64 s.evening_twilight_seconds.result ≡ s.evening_twilight_seconds.result = search rules in
+    let seconds : read_back w64 c.evening_twilight_seconds.result ≡ c.evening_twilight_seconds.result = search rules in
     let k : read_back w64 c.rounded_minute.result ≡ c.rounded_minute.result = search rules in
     let p : read_back w64 c.plus-adjusted.result ≡ c.plus-adjusted.result = search rules in
-    let e = seconds ∙ s.evening_twilight_seconds.ensures
-    ∙ ap (λ (x : Season). evening_seconds_of x t.args.day t.args.year t.args.shafaq) s.source_season.ensures in
+    let e = seconds ∙ c.evening_twilight_seconds.ensures
+    ∙ ap (λ (x : Season). evening_seconds_of x c.args.day c.args.year c.args.shafaq) c.source_season.ensures in
     k ∙ c.rounded_minute.ensures
     ∙ ap (λ (x : ℤ). sat_of (rounded_of Nearest x))
-    (p ∙ c.plus-adjusted.ensures ∙ ap sat_of (summands (read w64 t.args.sunset t.ranges.sunset) e))
+    (p ∙ c.plus-adjusted.ensures ∙ ap sat_of (summands (read w64 c.args.sunset c.ranges.sunset) e))

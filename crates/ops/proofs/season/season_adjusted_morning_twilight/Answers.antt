@@ -7,10 +7,8 @@ use Rattle.ops.proofs.season.season_adjusted_morning_twilight.Goals as goal
 
 pub returns : goal.returns
 returns c =
-    let s = c.before in
-    let t = s.before.before in
-    let seconds : read_back w64 s.morning_twilight_seconds.result ≡ s.morning_twilight_seconds.result = search rules in
+    let seconds : read_back w64 c.morning_twilight_seconds.result ≡ c.morning_twilight_seconds.result = search rules in
     let k : read_back w64 c.plus.result ≡ c.plus.result = search rules in
-    let e = seconds ∙ s.morning_twilight_seconds.ensures
-    ∙ ap (λ (x : Season). morning_seconds_of x t.args.day t.args.year) s.source_season.ensures in
-    k ∙ c.plus.ensures ∙ ap sat_of (summands (read w64 t.args.sunrise t.ranges.sunrise) e)
+    let e = seconds ∙ c.morning_twilight_seconds.ensures
+    ∙ ap (λ (x : Season). morning_seconds_of x c.args.day c.args.year) c.source_season.ensures in
+    k ∙ c.plus.ensures ∙ ap sat_of (summands (read w64 c.args.sunrise c.ranges.sunrise) e)

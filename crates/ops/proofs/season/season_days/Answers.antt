@@ -6,8 +6,7 @@ use Rattle.ops.proofs.season.season_days.Goals as goal
 pub returns-then-season : goal.returns-then-season
 unfolding days_by_rule dec round of_bits
 returns-then-season c =
-    let e = c.before.before in
-    simp (e.in-StartsAgain.is, c.if-season.true, sym e.days_since_solstice-by_source.ensures)
+    simp (c.in-StartsAgain.is, c.if-season.true, sym c.days_since_solstice-by_source.ensures)
 
 pub returns-in-Unreduced : goal.returns-in-Unreduced
 unfolding days_by_rule dec round of_bits

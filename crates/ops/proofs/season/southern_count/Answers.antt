@@ -10,16 +10,14 @@ returns-then-solstice-day_of_year c =
 
 pub overflow_add-result : goal.overflow_add-result
 overflow_add-result c =
-    let o = c.before.before in
-    let year = o.args.year in
-    record { fits = omega (arith, year-gap year, long year, c.if-solstice-day_of_year.false, c.days_in_year-days.ensures, o.southern_offset-solstice.ensures) }
+    let year = c.args.year in
+    record { fits = omega (arith, year-gap year, long year, c.if-solstice-day_of_year.false, c.days_in_year-days.ensures, c.southern_offset-solstice.ensures) }
 
 pub overflow_sub-result-2 : goal.overflow_sub-result-2
 unfolding southern_count_of
 overflow_sub-result-2 c =
-    let o = c.before.before in
-    let g = year-gap o.args.year in
-    omega (arith, c.days_in_year-days.ensures, o.southern_offset-solstice.ensures)
+    let g = year-gap c.args.year in
+    omega (arith, c.days_in_year-days.ensures, c.southern_offset-solstice.ensures)
 
 pub returns : goal.returns
 unfolding southern_count_of

@@ -17,6 +17,6 @@ returns c =
       c.through-course.ensures,
       c.new-observer.ensures,
     )
-    (hour-number-shared a.approximate-transit a.coordinates a.sidereal-time
-    (at a.previous-declination a.previous-right-ascension) (at a.declination a.right-ascension)
-    (at a.next-declination a.next-right-ascension) a.angle a.after-transit)
+    (hour-number-shared a.approximate_transit a.coordinates a.sidereal_time
+    (at a.previous_declination a.previous_right_ascension) (at a.declination a.right_ascension)
+    (at a.next_declination a.next_right_ascension) a.angle a.after_transit)

@@ -7,15 +7,10 @@ use Rattle.order.proofs.given.parameters_in.Goals as goal
 pub returns : goal.returns
 unfolding parameters_in
 returns c =
-    let c5 = c.before.before.before.before.before in
-    let c9 = c5.before.before.before.before in
-    let c14 = c9.before.before.before.before.before in
-    let a = c14.args in
-    let f0 : SFits w32 c9.interval_or.result = search rules in
-    let known = c9.type_inv.preset in
-    let whole = c9.method_adjustments-1.given in
-    let f1 : SFits w32 c14.parameters-preset.result.isha_interval = search rules in
-    let interval = c9.interval_or.ensures ∙ ap (interval_or (values_in a.order.now a.fields)) (to_z-of_z f1) in
+    let a = c.args in
+    let f0 : SFits w32 c.interval_or.result = search rules in
+    let f1 : SFits w32 c.parameters-preset.result.isha_interval = search rules in
+    let interval = c.interval_or.ensures ∙ ap (interval_or (values_in a.order.now a.fields)) (to_z-of_z f1) in
     simp (
       to_z-of_z f0,
       sym interval,
@@ -24,14 +19,14 @@ returns c =
       sym c.rounding_or.ensures,
       sym c.minutes_or.ensures,
       sym c.default.ensures,
-      sym c5.of_number-3.ensures,
-      sym c5.byte_or-2.ensures,
-      sym c5.of_number-2.ensures,
-      sym c5.byte_or.ensures,
-      sym c9.degrees_or-2.ensures,
-      sym c9.degrees_or.ensures,
-      sym c14.parameters-preset.ensures,
-      sym c14.of_number.ensures,
-      sym c14.byte.ensures.value,
-      sym c14.value.ensures,
+      sym c.of_number-3.ensures,
+      sym c.byte_or-2.ensures,
+      sym c.of_number-2.ensures,
+      sym c.byte_or.ensures,
+      sym c.degrees_or-2.ensures,
+      sym c.degrees_or.ensures,
+      sym c.parameters-preset.ensures,
+      sym c.of_number.ensures,
+      sym c.byte.ensures.value,
+      sym c.value.ensures,
     )

@@ -1,5 +1,5 @@
 -- A proof for each row of the table.
-use Rattle.prelude.proofs.Logic.{ne_eqb}
+use Rattle.prelude.proofs.Logic.{ne_eqb, arith}
 use Rattle.float64.proofs.Floats.{neg, of_bits, round, dec}
 use Rattle.order.specs.Ranges.{look_up}
 use Rattle.order.proofs.ranges.fits.Goals as goal
@@ -59,22 +59,20 @@ returns-in-20 c = simp (c.ramadan_fits.ensures, c.in-20.is)
 pub returns-in_default : goal.returns-in_default
 unfolding look_up
 returns-in_default c =
-    let m = c.before.before in
-    let r = m.in-1.rest in
     simp (
       c.choice_fits.ensures,
       c.byte.ensures.value,
-      ne_eqb _ 1 r.0.0.0.0.0.0.0.0.0.0.0.0.1,
-      ne_eqb _ 2 r.0.0.0.0.0.0.0.0.0.0.0.1,
-      ne_eqb _ 3 r.0.0.0.0.0.0.0.0.0.0.1,
-      ne_eqb _ 4 r.0.0.0.0.0.0.0.0.0.1,
-      ne_eqb _ 5 r.0.0.0.0.0.0.0.0.1,
-      ne_eqb _ 11 r.0.0.0.0.0.0.0.1,
-      ne_eqb _ 12 r.0.0.0.0.0.0.1,
-      ne_eqb _ 13 r.0.0.0.0.0.1,
-      ne_eqb _ 14 r.0.0.0.0.1,
-      ne_eqb _ 16 r.0.0.0.1,
-      ne_eqb _ 18 r.0.0.1,
-      ne_eqb _ 19 r.0.1,
-      ne_eqb _ 20 r.1,
+      ne_eqb c.args.tag 1 (λ e. omega arith),
+      ne_eqb c.args.tag 2 (λ e. omega arith),
+      ne_eqb c.args.tag 3 (λ e. omega arith),
+      ne_eqb c.args.tag 4 (λ e. omega arith),
+      ne_eqb c.args.tag 5 (λ e. omega arith),
+      ne_eqb c.args.tag 11 (λ e. omega arith),
+      ne_eqb c.args.tag 12 (λ e. omega arith),
+      ne_eqb c.args.tag 13 (λ e. omega arith),
+      ne_eqb c.args.tag 14 (λ e. omega arith),
+      ne_eqb c.args.tag 16 (λ e. omega arith),
+      ne_eqb c.args.tag 18 (λ e. omega arith),
+      ne_eqb c.args.tag 19 (λ e. omega arith),
+      ne_eqb c.args.tag 20 (λ e. omega arith),
     )

@@ -9,10 +9,7 @@ told m r f e = e ∙ ap minute_fits (to_z-of_z f)
 pub returns : goal.returns
 unfolding minutes_fit
 returns c =
-    let c4 = c.before.before.before.before in
-    let c8 = c4.before.before.before.before in
-    let m = c8.args.m in
-    let known = c.type_inv.m in
+    let m = c.args.m in
     let f1 : SFits w32 m.fajr = search rules in
     let f2 : SFits w32 m.sunrise = search rules in
     let f3 : SFits w32 m.dhuhr = search rules in
@@ -20,10 +17,10 @@ returns c =
     let f5 : SFits w32 m.maghrib = search rules in
     let f6 : SFits w32 m.isha = search rules in
     simp (
-      told m.fajr _ f1 c8.minute_fits.ensures,
-      told m.sunrise _ f2 c8.minute_fits-2.ensures,
-      told m.dhuhr _ f3 c4.minute_fits-3.ensures,
-      told m.asr _ f4 c4.minute_fits-4.ensures,
+      told m.fajr _ f1 c.minute_fits.ensures,
+      told m.sunrise _ f2 c.minute_fits-2.ensures,
+      told m.dhuhr _ f3 c.minute_fits-3.ensures,
+      told m.asr _ f4 c.minute_fits-4.ensures,
       told m.maghrib _ f5 c.minute_fits-5.ensures,
       told m.isha _ f6 c.minute_fits-6.ensures,
     )

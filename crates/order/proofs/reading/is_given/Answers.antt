@@ -1,5 +1,5 @@
 -- A proof for each coordinate, and one for all other tags.
-use Rattle.prelude.proofs.Logic.{ne_eqb}
+use Rattle.prelude.proofs.Logic.{ne_eqb, arith}
 use Rattle.order.specs.Ranges.{look_up}
 use Rattle.order.specs.Reading.{is_given_of}
 use Rattle.order.proofs.reading.is_given.Goals as goal
@@ -15,5 +15,4 @@ returns-in-5 c = simp (c.has-in-5-2.ensures, c.has-in-5.ensures, c.in-5.is)
 pub returns-in_default : goal.returns-in_default
 unfolding is_given_of look_up
 returns-in_default c =
-    let r = c.in-4.rest in
-    simp (c.has-in_default.ensures, ne_eqb _ 4 r.0.1, ne_eqb _ 5 r.1)
+    simp (c.has-in_default.ensures, ne_eqb c.args.tag 4 (λ e. omega arith), ne_eqb c.args.tag 5 (λ e. omega arith))

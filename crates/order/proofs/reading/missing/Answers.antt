@@ -1,5 +1,5 @@
 -- Invariant: the first tag that fails from here on is the first of all that fails.
-use Rattle.prelude.proofs.Logic.{◌≡◌, refl, sym, ◌∙◌, ◌-◌, ◌≤◌, arith, drop, rules, not-true, not-false}
+use Rattle.prelude.proofs.Logic.{◌≡◌, refl, sym, ◌∙◌, ◌-◌, ◌≤◌, arith, drop, rules}
 use Rattle.fields.specs.Values.{has_in}
 use Rattle.order.specs.Reading.{first_failing, required, is_given_of, missing_of}
 use Rattle.order.proofs.Tags.{fails, on, none}
@@ -11,22 +11,18 @@ loop-i-init c = (omega arith, refl)
 
 pub returns-then-not-is_given : goal.returns-then-not-is_given
 returns-then-not-is_given c =
-    let h = c.before.before in
-    let l = h.before.before in
-    c.new.ensures ∙ sym (fails 4 (is_given_of (has_in l.args.fields)) required l.loop-i.i h.loop-i-test.true _ refl
-    (sym h.is_given.ensures ∙ not-true _ c.if-not-is_given.true)) ∙ l.loop-i.invariant.1
+    c.new.ensures ∙ sym (fails 4 (is_given_of (has_in c.args.fields)) required c.loop-i.i c.loop-i-test.true _ refl
+    (sym c.is_given.ensures ∙ c.if-not-is_given.true)) ∙ c.loop-i.invariant.1
 
 pub loop-i-preserved : goal.loop-i-preserved
 loop-i-preserved c =
-    let h = c.before in
-    let l = h.before.before in (
+    (
       search rules,
-      sym (on 4 (is_given_of (has_in l.args.fields)) required l.loop-i.i h.loop-i-test.true _ refl
-          (sym h.is_given.ensures ∙ not-false _ c.if-not-is_given.false)) ∙ l.loop-i.invariant.1,
+      sym (on 4 (is_given_of (has_in c.args.fields)) required c.loop-i.i c.loop-i-test.true _ refl
+          (sym c.is_given.ensures ∙ c.if-not-is_given.false)) ∙ c.loop-i.invariant.1,
     )
 
 pub returns : goal.returns
 returns c =
-    let l = c.before.before in
-    c.none.ensures ∙ sym (none 4 (is_given_of (has_in l.args.fields)) required l.loop-i.i c.loop-i-test.false)
-    ∙ l.loop-i.invariant.1
+    c.none.ensures ∙ sym (none 4 (is_given_of (has_in c.args.fields)) required c.loop-i.i c.loop-i-test.false)
+    ∙ c.loop-i.invariant.1

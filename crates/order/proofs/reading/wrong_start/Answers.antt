@@ -12,7 +12,6 @@ told : (c : After-is_ramadan_start) → let a = c.args in
 told c =
     let day = c.day_number in
     let a = c.args in
-    let known = c.type_inv.ramadan in
     let k : read_back w64 day.result ≡ day.result = search rules in
     let f : SFits w32 a.ramadan.shift = search rules in
     c.is_ramadan_start.ensures ∙ ap (λ (z : ℤ). ramadan_start_of z (read_back w32 a.ramadan.shift)) (k ∙ day.ensures)
@@ -20,11 +19,11 @@ told c =
 
 pub returns-then-is_ramadan_start : goal.returns-then-is_ramadan_start
 unfolding wrong_start_of
-returns-then-is_ramadan_start c = simp (c.none.ensures, c.if-ramadan.true, sym (told c.before.before), c.if-is_ramadan_start.true)
+returns-then-is_ramadan_start c = simp (c.none.ensures, c.if-ramadan.true, sym (told (goal.at.returns-then-is_ramadan_start c).After-is_ramadan_start), c.if-is_ramadan_start.true)
 
 pub returns-then-ramadan : goal.returns-then-ramadan
 unfolding wrong_start_of
-returns-then-ramadan c = simp (c.new.ensures, c.if-ramadan.true, sym (told c.before.before), c.if-is_ramadan_start.false)
+returns-then-ramadan c = simp (c.new.ensures, c.if-ramadan.true, sym (told (goal.at.returns-then-ramadan c).After-is_ramadan_start), c.if-is_ramadan_start.false)
 
 pub returns : goal.returns
 unfolding wrong_start_of

@@ -12,7 +12,5 @@ overflow_cast-z-2 c = wide c.args.z c.ranges.z
 
 pub returns : goal.returns
 returns c =
-    let parts = c.before in
-    let start = parts.before.before in
     c.shift_for.ensures
-    ∙ parts_kept shift_for start.args.z start.ranges.z _ _ parts.above.ensures parts.below.ensures
+    ∙ parts_kept shift_for c.args.z c.ranges.z _ _ c.above.ensures c.below.ensures

@@ -12,7 +12,5 @@ overflow_cast-z-2 c = wide c.args.z c.ranges.z
 
 pub returns : goal.returns
 returns c =
-    let parts = c.before.before in
-    let start = parts.before.before in
     c.two_bytes.ensures ∙ ap two_bytes (c.sixteen_for.ensures.value
-    ∙ parts_kept sixteen_for start.args.z start.ranges.z _ _ parts.above.ensures parts.below.ensures)
+    ∙ parts_kept sixteen_for c.args.z c.ranges.z _ _ c.above.ensures c.below.ensures)

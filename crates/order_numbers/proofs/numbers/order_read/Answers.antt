@@ -6,19 +6,15 @@ use Rattle.order_numbers.proofs.numbers.order_read.Goals as goal
 pub returns : goal.returns
 unfolding order_read
 returns c =
-    let n = c.before.before.before in
-    let read = n.before.before.before.before.before in
-    let parts = read.before.before in
-    let told = c.type_inv.parameters in
-    let f : SFits w32 parts.args.order.setting.parameters.isha_interval = search rules in
+    let f : SFits w32 c.args.order.setting.parameters.isha_interval = search rules in
     simp (
       to_z-of_z f,
       c.choices_read.ensures,
       c.interval.ensures,
-      n.number-5.ensures,
-      n.number-4.ensures,
-      n.number-3.ensures,
-      n.number-2.ensures,
-      n.number.ensures,
-      read.none.ensures,
+      c.number-5.ensures,
+      c.number-4.ensures,
+      c.number-3.ensures,
+      c.number-2.ensures,
+      c.number.ensures,
+      c.none.ensures,
     )

@@ -5,4 +5,4 @@ use Rattle.order_numbers.proofs.put.date_bytes.Goals as goal
 
 pub returns : goal.returns
 unfolding date_bytes two_bytes
-returns c = simp (c.word_Bytes.ensures, c.byte_for.ensures, c.byte_for-2.ensures)
+returns c = simp (c.word_bytes-year.ensures, c.byte_for.ensures, c.byte_for-2.ensures)

@@ -5,5 +5,4 @@ use Rattle.order_numbers.proofs.put.is_unsaid.Goals as goal
 pub returns : goal.returns
 unfolding unsaid
 returns c =
-    let start = c.before.before.before.before.before.before in
-    let f : SFits w32 start.args.c.shift = search rules in simp (to_z-of_z f)
+    let f : SFits w32 c.args.c.shift = search rules in simp (to_z-of_z f)

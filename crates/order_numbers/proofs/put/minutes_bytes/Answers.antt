@@ -15,15 +15,11 @@ returns c =
     let asr-fits : SFits w32 m.asr = search rules in
     let maghrib-fits : SFits w32 m.maghrib = search rules in
     let isha-fits : SFits w32 m.isha = search rules in
-    let maghrib = c.before.before in
-    let asr = maghrib.before.before in
-    let dhuhr = asr.before.before in
-    let sunrise = dhuhr.before.before in
     simp (
-      bytes_told m.fajr _ fajr-fits sunrise.signed_bytes-fajr.ensures,
-      bytes_told m.sunrise _ sunrise-fits sunrise.signed_bytes-sunrise.ensures,
-      bytes_told m.dhuhr _ dhuhr-fits dhuhr.signed_bytes-dhuhr.ensures,
-      bytes_told m.asr _ asr-fits asr.signed_bytes-asr.ensures,
-      bytes_told m.maghrib _ maghrib-fits maghrib.signed_bytes-maghrib.ensures,
+      bytes_told m.fajr _ fajr-fits c.signed_bytes-fajr.ensures,
+      bytes_told m.sunrise _ sunrise-fits c.signed_bytes-sunrise.ensures,
+      bytes_told m.dhuhr _ dhuhr-fits c.signed_bytes-dhuhr.ensures,
+      bytes_told m.asr _ asr-fits c.signed_bytes-asr.ensures,
+      bytes_told m.maghrib _ maghrib-fits c.signed_bytes-maghrib.ensures,
       bytes_told m.isha _ isha-fits c.signed_bytes-isha.ensures,
     )

@@ -3,9 +3,8 @@ use Rattle.order_numbers.proofs.put.put_byte.Goals as goal
 
 pub returns : goal.returns
 returns c =
-    let put = c.before.before in
     
     record {
-      value = omega (arith, put.put_field.ensures.value);
-      line_after = rw (← put.byte_for.ensures) put.put_field.ensures.line_after;
+      value = omega (arith, c.put_field.ensures.value);
+      line_after = rw (← c.byte_for.ensures) c.put_field.ensures.line_after;
     }

@@ -3,9 +3,8 @@ use Rattle.order_numbers.proofs.put.put_float.Goals as goal
 
 pub returns : goal.returns
 returns c =
-    let put = c.before.before in
     
     record {
-      value = omega (arith, put.put_field.ensures.value);
-      line_after = rw (← put.float_bytes-bytes.ensures) put.put_field.ensures.line_after;
+      value = omega (arith, c.put_field.ensures.value);
+      line_after = rw (← c.float_bytes-bytes.ensures) c.put_field.ensures.line_after;
     }

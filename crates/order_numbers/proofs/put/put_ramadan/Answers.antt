@@ -7,21 +7,22 @@ use Rattle.order_numbers.proofs.put.put_ramadan.Goals as goal
 pub returns-then-is_unsaid : goal.returns-then-is_unsaid
 unfolding joined ramadan_fields
 returns-then-is_unsaid c =
-    let start = c.before.before.before in
-    let room = start.requires.1 in
-    let t : unsaid start.args.c ≡ true = sym c.is_unsaid.ensures ∙ c.if-is_unsaid.true in
+    let room = c.requires.1 in
+    let t : unsaid c.args.c ≡ true = sym c.is_unsaid.ensures ∙ c.if-is_unsaid.true in
     
-    let both = simp t (omega arith, sym (append-nil (take start.args.at start.args.line.now))) in record { upper_bound = both.0; line_after = both.1 }
+    record {
+      upper_bound = omega arith;
+      line_after = simp t (sym (append-nil (take c.args.at c.args.line.now)));
+    }
 
 pub returns : goal.returns
 unfolding joined ramadan_fields
 returns c =
-    let put = c.before.before in
-    let made = put.before.before.before in
-    let tested = made.before in
-    let start = tested.before.before.before in
-    let room = start.requires.1 in
-    let t : unsaid start.args.c ≡ false = sym tested.is_unsaid.ensures ∙ tested.if-is_unsaid.false in
+    let room = c.requires.1 in
+    let t : unsaid c.args.c ≡ false = sym c.is_unsaid.ensures ∙ c.if-is_unsaid.false in
     
-    let both = simp (t, append-nil (field_bytes 20 made.ramadan_bytes-bytes.result), ← made.ramadan_bytes-bytes.ensures)
-    (omega (arith, put.put_field.ensures.value), put.put_field.ensures.line_after) in record { upper_bound = both.0; line_after = both.1 }
+    record {
+      upper_bound = omega (arith, c.put_field.ensures.value);
+      line_after = simp (t, append-nil (field_bytes 20 c.ramadan_bytes-bytes.result), ← c.ramadan_bytes-bytes.ensures)
+          c.put_field.ensures.line_after;
+    }

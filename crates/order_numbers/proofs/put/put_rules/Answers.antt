@@ -6,18 +6,14 @@ use Rattle.order_numbers.proofs.put.put_rules.Goals as goal
 
 pub returns : goal.returns
 returns c =
-    let southern = c.before.before in
-    let clock = southern.before.before.before.before in
-    let carry = clock.before.before.before.before.before in
-    let made = carry.before.before in
-    let a = made.args in
+    let a = c.args in
     let f : SFits w32 a.c.clock = search rules in 
     record {
       value = omega arith;
       line_after = simp (
-        southern.put_byte.ensures.line_after,
-        clock.put_field-at.ensures.line_after,
-        carry.put_byte-at.ensures.line_after,
-        bytes_told a.c.clock _ f made.signed_bytes-minutes.ensures,
+        c.put_byte.ensures.line_after,
+        c.put_field-at.ensures.line_after,
+        c.put_byte-at.ensures.line_after,
+        bytes_told a.c.clock _ f c.signed_bytes-minutes.ensures,
       ) (laid (take a.at a.line.now) (rule_fields a.c));
     }

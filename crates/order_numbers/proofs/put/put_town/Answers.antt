@@ -4,13 +4,12 @@ use Rattle.order_numbers.proofs.put.put_town.Goals as goal
 
 pub returns-then-town-le-TOWN_CUT : goal.returns-then-town-le-TOWN_CUT
 returns-then-town-le-TOWN_CUT c =
-    let put = c.before.before in
-    let few = put.if-town-le-TOWN_CUT.true in
-    let town = put.args.town.now in
+    let few = c.if-town-le-TOWN_CUT.true in
+    let town = c.args.town.now in
     
     record {
-      upper_bound = omega (arith, put.put_field.ensures.value);
-      line_after = rw (take_all 41 town few) put.put_field.ensures.line_after;
+      upper_bound = omega (arith, c.put_field.ensures.value);
+      line_after = rw (take_all 41 town few) c.put_field.ensures.line_after;
     }
 
 pub slice_bounds-put_field-end : goal.slice_bounds-put_field-end
@@ -18,13 +17,11 @@ slice_bounds-put_field-end c = omega (arith, length-take 41 c.args.town.now, c.i
 
 pub put_field-requires-2 : goal.put_field-requires-2
 put_field-requires-2 c =
-    let start = c.before.before.before.before.before in
-    (start.requires, omega (arith, length-take 41 start.args.town.now), lit≤ tt)
+    (c.requires, omega (arith, length-take 41 c.args.town.now), lit≤ tt)
 
 pub returns : goal.returns
 returns c =
-    let put = c.before.before in 
     record {
-      upper_bound = omega (arith, put.put_field-2.ensures.value, length-take 41 put.args.town.now);
-      line_after = put.put_field-2.ensures.line_after;
+      upper_bound = omega (arith, c.put_field-2.ensures.value, length-take 41 c.args.town.now);
+      line_after = c.put_field-2.ensures.line_after;
     }

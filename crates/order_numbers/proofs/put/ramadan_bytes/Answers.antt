@@ -6,11 +6,10 @@ use Rattle.order_numbers.proofs.put.ramadan_bytes.Goals as goal
 pub returns-then-c-eq1 : goal.returns-then-c-eq1
 unfolding ramadan_bytes
 returns-then-c-eq1 c =
-    let tested = c.before.before.before in
-    let choices = tested.args.c in
+    let choices = c.args.c in
     let f : SFits w32 choices.shift = search rules in
     let shift = c.shift_byte.ensures ∙ ap shift_byte (to_z-of_z f) in
-    simp (eq-eqb choices.ramadan 1 tested.if-c-eq1.true, c.byte_for.ensures, shift)
+    simp (eq-eqb choices.ramadan 1 c.if-c-eq1.true, c.byte_for.ensures, shift)
 
 pub returns : goal.returns
 unfolding ramadan_bytes

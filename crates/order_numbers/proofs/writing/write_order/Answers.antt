@@ -5,17 +5,18 @@ use Rattle.order_numbers.proofs.writing.write_order.Goals as goal
 pub slice_bounds-hand_out-end : goal.slice_bounds-hand_out-end
 slice_bounds-hand_out-end c =
     let made = c.put_order-length in
-    let kept = made.kept.0 in
-    sym (length-take-le made.result made.new.0 (omega (arith, made.ensures.upper_bound)))
+    let kept = made.auto.line in
+    sym (length-take-le made.result made.new.line (omega (arith, made.ensures.upper_bound)))
 
 pub hand_out-requires : goal.hand_out-requires
 hand_out-requires c =
     let made = c.put_order-length in
-    omega (arith, length-take made.result made.new.0, made.ensures.upper_bound)
+    omega (arith, length-take made.result made.new.line, made.ensures.upper_bound)
 
 pub returns : goal.returns
 returns c =
-    let handed = c.before.before in
-    let made = handed.before.before.before.before in
     
-    let both = simp (← made.put_order-length.ensures.line_after) handed.hand_out.ensures in record { value = both.0; buffer_after = both.1 }
+    record {
+      value = simp (← c.put_order-length.ensures.line_after) c.hand_out.ensures.value;
+      buffer_after = simp (← c.put_order-length.ensures.line_after) c.hand_out.ensures.buffer_after;
+    }

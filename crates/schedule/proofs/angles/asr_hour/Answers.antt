@@ -7,11 +7,9 @@ use Rattle.schedule.proofs.angles.asr_hour.Goals as goal
 
 pub returns : goal.returns
 returns c =
-    let shadow = c.before.before.before in
-    let t = shadow.before.before.before.before in
-    let s = t.args.setting in
-    let k : read_back w32 shadow.shadow-shadow_length.result ≡ shadow.shadow-shadow_length.result = search rules in
+    let s = c.args.setting in
+    let k : read_back w32 c.shadow-shadow_length.result ≡ c.shadow-shadow_length.result = search rules in
     c.solar_hour.ensures
     ∙ ap (solar_hour_of s.rules.midnight)
     (c.afternoon_number.ensures ∙ ap
-    (λ (z : ℤ). course_afternoon_number_of t.args.course s.coordinates.latitude (of_int binary64 z)) (k ∙ shadow.shadow-shadow_length.ensures))
+    (λ (z : ℤ). course_afternoon_number_of c.args.course s.coordinates.latitude (of_int binary64 z)) (k ∙ c.shadow-shadow_length.ensures))

@@ -1,21 +1,19 @@
-use Rattle.prelude.proofs.Logic.{◌≡◌, ap, ◌∙◌, arith, ◌-ℤ◌, rules, w64, SFits}
-use Rattle.integers.proofs.Integers.{differences, read, P}
+use Rattle.prelude.proofs.Logic.{◌≡◌, ap, ◌∙◌, ℕ, ℤ, arith, ◌-ℤ◌, rules, w64, SFits}
+use Rattle.integers.proofs.Integers.{differences, read, read_back, P}
 use Rattle.schedule.proofs.Due as due
 use Rattle.schedule.proofs.in_force.ahead.Goals as goal
-use Rattle.schedule.proofs.in_force.ahead.Goals.{After-between-whole}
 
-told : (c : After-between-whole) → let a = c.args in c.between-whole.result ≡ P (a.time -ℤ a.instant.seconds)
-told c =
-    let t = c.before.before in
-    let f : SFits w64 t.args.instant.seconds = search rules in
-    c.between-whole.ensures ∙ ap P (differences (read w64 t.args.time t.ranges.time) (read w64 t.args.instant.seconds f))
+told : (t s : ℤ) {r : ℕ} → SFits w64 t → SFits w64 s → r ≡ P (read_back w64 t -ℤ read_back w64 s) → r ≡ P (t -ℤ s)
+told t s f g e = e ∙ ap P (differences (read w64 t f) (read w64 s g))
 
 pub returns-then-whole-begun : goal.returns-then-whole-begun
 returns-then-whole-begun c =
     let a = c.args in
-    omega (arith, told c.before.before, due.ahead_is a.time a.instant, c.if-whole-begun.true)
+    let f : SFits w64 a.instant.seconds = search rules in
+    omega (arith, told a.time a.instant.seconds c.ranges.time f c.between-whole.ensures, due.ahead_is a.time a.instant, c.if-whole-begun.true)
 
 pub returns : goal.returns
 returns c =
     let a = c.args in
-    omega (arith, told c.before.before, due.ahead_is a.time a.instant)
+    let f : SFits w64 a.instant.seconds = search rules in
+    omega (arith, told a.time a.instant.seconds c.ranges.time f c.between-whole.ensures, due.ahead_is a.time a.instant)

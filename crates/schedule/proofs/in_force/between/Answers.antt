@@ -10,9 +10,8 @@ parts : (c : After-below-2) → let a = c.args in
     (c.above.result ≡ P a.time) × (c.below.result ≡ N a.seconds)
     × (c.above-2.result ≡ P a.seconds) × (c.below-2.result ≡ N a.time)
 parts c =
-    let t = c.before.before.before.before in
-    let rt = read w64 t.args.time t.ranges.time in
-    let rs = read w64 t.args.seconds t.ranges.seconds in (
+    let rt = read w64 c.args.time c.ranges.time in
+    let rs = read w64 c.args.seconds c.ranges.seconds in (
       c.above.ensures ∙ ap P rt,
       c.below.ensures ∙ ap N rs,
       c.above-2.ensures ∙ ap P rs,
@@ -21,15 +20,14 @@ parts c =
 
 pub overflow_add-to : goal.overflow_add-to
 overflow_add-to c =
-    let t = c.before.before in
-    let a = c.above.ensures ∙ ap P (read w64 t.args.time t.ranges.time) in
-    let b = c.below.ensures ∙ ap N (read w64 t.args.seconds t.ranges.seconds) in
-    due.sum_fits _ _ _ _ t.ranges.time t.ranges.seconds a b
+    let a = c.above.ensures ∙ ap P (read w64 c.args.time c.ranges.time) in
+    let b = c.below.ensures ∙ ap N (read w64 c.args.seconds c.ranges.seconds) in
+    due.sum_fits _ _ _ _ c.ranges.time c.ranges.seconds a b
 
 pub overflow_add-from : goal.overflow_add-from
 overflow_add-from c =
-    let t = c.before.before.before.before in let p = parts c in
-    due.sum_fits _ _ _ _ t.ranges.seconds t.ranges.time p.2 p.3
+    let p = parts c in
+    due.sum_fits _ _ _ _ c.ranges.seconds c.ranges.time p.2 p.3
 
 pub returns-then-to-from : goal.returns-then-to-from
 returns-then-to-from c =

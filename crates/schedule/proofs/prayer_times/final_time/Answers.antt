@@ -6,12 +6,9 @@ use Rattle.schedule.proofs.prayer_times.final_time.Goals as goal
 
 pub returns : goal.returns
 returns c =
-    let a = c.before in
-    let m = a.before in
-    let t = m.before in
-    let j : read_back w64 a.adjust_time.result ≡ a.adjust_time.result = search rules in
+    let j : read_back w64 c.adjust_time.result ≡ c.adjust_time.result = search rules in
     let k : read_back w64 c.rounded_minute.result ≡ c.rounded_minute.result = search rules in
-    let minutes = of_near m.time_adjustments.ensures (lit≤ tt) in
+    let minutes = of_near c.time_adjustments.ensures (lit≤ tt) in
     let adjusted =
-    held_by (j ∙ a.adjust_time.ensures) (held_adjusted (of_i64 t.args.time t.ranges.time t.requires) minutes (lit≤ tt)) in
-    promised (held_by (k ∙ c.rounded_minute.ensures) (held_rounded t.args.rounding adjusted (lit≤ tt))) (lit≤ tt)
+    held_by (j ∙ c.adjust_time.ensures) (held_adjusted (of_i64 c.args.time c.ranges.time c.requires) minutes (lit≤ tt)) in
+    promised (held_by (k ∙ c.rounded_minute.ensures) (held_rounded c.args.rounding adjusted (lit≤ tt))) (lit≤ tt)

@@ -11,8 +11,7 @@ overflow_add-maghrib c =
 
 pub returns : goal.returns
 returns c =
-    let t = c.before in
     let k : read_back w64 c.rounded_minute.result ≡ c.rounded_minute.result = search rules in
     let x =
-    held_sum (of_i64 t.args.maghrib t.ranges.maghrib t.requires.0) (of_i64 t.args.seconds t.ranges.seconds t.requires.1) in
+    held_sum (of_i64 c.args.maghrib c.ranges.maghrib c.requires.0) (of_i64 c.args.seconds c.ranges.seconds c.requires.1) in
     promised (held_by (k ∙ c.rounded_minute.ensures) (held_rounded Nearest (stored x (lit≤ tt)) (lit≤ tt))) (lit≤ tt)

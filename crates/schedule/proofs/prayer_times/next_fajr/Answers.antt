@@ -15,10 +15,9 @@ overflow_add-result c = held_fits (held_sum (of_near c.final_time.ensures (lit�
 pub returns : goal.returns
 unfolding fajr_tomorrow_of
 returns c =
-    let t = c.before.before.before in
-    let p = t.args.parameters in
+    let p = c.args.parameters in
     let u = of_near c.unadjusted_fajr-fajr.ensures (lit≤ tt) in
-    let fajr = u.is ∙ ap (λ (d : Date). unadjusted_fajr_of p t.args.season d t.args.tomorrow t.args.after t.args.hour)
+    let fajr = u.is ∙ ap (λ (d : Date). unadjusted_fajr_of p c.args.season d c.args.tomorrow c.args.after c.args.hour)
     c.tomorrow.ensures in
     let adjusted = none_stays _ ∙ ap (λ (z : ℤ). adjusted_of z (time_adjustments_of p Fajr)) fajr in
     promised (held_as (stored (held_sum (of_near c.final_time.ensures (lit≤ tt)) (constant 86400)) (lit≤ tt)) (ap next_day_of adjusted))

@@ -7,26 +7,22 @@ use Rattle.schedule.proofs.twilight.fajr_bound.Goals as goal
 pub returns-then-by_season : goal.returns-then-by_season
 unfolding before_sunrise_of
 returns-then-by_season c =
-    let m = c.before.before in
-    let t = m.before.before.before.before in
-    let f : SFits w32 t.args.today.sunrise = search rules in
-    let k : read_back w64 m.morning_twilight_seconds-seconds.result ≡ m.morning_twilight_seconds-seconds.result = search rules in
-    let e : short_of (read_back w64 m.morning_twilight_seconds-seconds.result) ≡ before_sunrise_of t.args.parameters t.args.season
-    t.args.date t.args.night =
-    ap short_of (k ∙ m.morning_twilight_seconds-seconds.ensures
-    ∙ simp (m.ordinal.ensures, sym m.by_season.ensures, m.if-by_season.true)) in
+    let f : SFits w32 c.args.today.sunrise = search rules in
+    let k : read_back w64 c.morning_twilight_seconds-seconds.result ≡ c.morning_twilight_seconds-seconds.result = search rules in
+    let e : short_of (read_back w64 c.morning_twilight_seconds-seconds.result) ≡ before_sunrise_of c.args.parameters c.args.season
+    c.args.date c.args.night =
+    ap short_of (k ∙ c.morning_twilight_seconds-seconds.ensures
+    ∙ simp (c.ordinal.ensures, sym c.by_season.ensures, c.if-by_season.true)) in
     promised (held_as (of_near c.moved.ensures (lit≤ tt)) (summands (read w32 _ f) e)) (lit≤ tt)
 
 pub returns : goal.returns
 unfolding before_sunrise_of
 returns c =
-    let m = c.before.before in
-    let t = m.before.before.before.before in
-    let f : SFits w32 t.args.today.sunrise = search rules in
-    let k : read_back w64 m.portion_before.result ≡ m.portion_before.result = search rules in
-    let n = read w64 t.args.night t.ranges.night in
-    let e : short_of (read_back w64 m.portion_before.result) ≡ before_sunrise_of t.args.parameters t.args.season t.args.date
-    t.args.night =
-    ap short_of (k ∙ m.portion_before.ensures ∙ simp
-    (n, m.night_portions-portions.ensures, sym m.by_season.ensures, m.if-by_season.false)) in
+    let f : SFits w32 c.args.today.sunrise = search rules in
+    let k : read_back w64 c.portion_before.result ≡ c.portion_before.result = search rules in
+    let n = read w64 c.args.night c.ranges.night in
+    let e : short_of (read_back w64 c.portion_before.result) ≡ before_sunrise_of c.args.parameters c.args.season c.args.date
+    c.args.night =
+    ap short_of (k ∙ c.portion_before.ensures ∙ simp
+    (n, c.night_portions-portions.ensures, sym c.by_season.ensures, c.if-by_season.false)) in
     promised (held_as (of_near c.moved-2.ensures (lit≤ tt)) (summands (read w32 _ f) e)) (lit≤ tt)

@@ -9,32 +9,26 @@ use Rattle.schedule.proofs.twilight.isha_bound.Goals as goal
 pub returns-then-by_season : goal.returns-then-by_season
 unfolding isha_bound_of after_sunset_of
 returns-then-by_season c =
-    let m = c.before.before.before in
-    let t = m.before.before.before.before in
-    let f : SFits w32 t.args.today.sunset = search rules in
+    let f : SFits w32 c.args.today.sunset = search rules in
     let k : read_back w64 c.rounded_minute.result ≡ c.rounded_minute.result = search rules in
-    let ke : read_back w64 m.evening_twilight_seconds-seconds.result ≡ m.evening_twilight_seconds-seconds.result = search rules in
-    let season = m.before.before in
-    let e : short_of (read_back w64 m.evening_twilight_seconds-seconds.result) ≡ after_sunset_of t.args.parameters t.args.season
-    t.args.date t.args.night =
-    ap short_of (ke ∙ m.evening_twilight_seconds-seconds.ensures
-    ∙ simp (m.ordinal.ensures, sym season.by_season.ensures, season.if-by_season.true)) in
+    let ke : read_back w64 c.evening_twilight_seconds-seconds.result ≡ c.evening_twilight_seconds-seconds.result = search rules in
+    let e : short_of (read_back w64 c.evening_twilight_seconds-seconds.result) ≡ after_sunset_of c.args.parameters c.args.season
+    c.args.date c.args.night =
+    ap short_of (ke ∙ c.evening_twilight_seconds-seconds.ensures
+    ∙ simp (c.ordinal.ensures, sym c.by_season.ensures, c.if-by_season.true)) in
     let x = held_as (of_near c.moved.ensures (lit≤ tt)) (summands (read w32 _ f) e) in
     promised (held_as (held_by (k ∙ c.rounded_minute.ensures) (held_rounded Nearest x (lit≤ tt)))
-    (simp (sym season.by_season.ensures, season.if-by_season.true))) (lit≤ tt)
+    (simp (sym c.by_season.ensures, c.if-by_season.true))) (lit≤ tt)
 
 pub returns : goal.returns
 unfolding isha_bound_of after_sunset_of
 returns c =
-    let m = c.before.before in
-    let t = m.before.before.before.before in
-    let f : SFits w32 t.args.today.sunset = search rules in
-    let k : read_back w64 m.portion_after.result ≡ m.portion_after.result = search rules in
-    let n = read w64 t.args.night t.ranges.night in
-    let season = m.before.before in
-    let e : short_of (read_back w64 m.portion_after.result) ≡ after_sunset_of t.args.parameters t.args.season t.args.date
-    t.args.night =
-    ap short_of (k ∙ m.portion_after.ensures
-    ∙ simp (n, m.night_portions-portions.ensures, sym season.by_season.ensures, season.if-by_season.false)) in
+    let f : SFits w32 c.args.today.sunset = search rules in
+    let k : read_back w64 c.portion_after.result ≡ c.portion_after.result = search rules in
+    let n = read w64 c.args.night c.ranges.night in
+    let e : short_of (read_back w64 c.portion_after.result) ≡ after_sunset_of c.args.parameters c.args.season c.args.date
+    c.args.night =
+    ap short_of (k ∙ c.portion_after.ensures
+    ∙ simp (n, c.night_portions-portions.ensures, sym c.by_season.ensures, c.if-by_season.false)) in
     promised (held_as (of_near c.moved-2.ensures (lit≤ tt))
-    (summands (read w32 _ f) e ∙ simp (sym season.by_season.ensures, season.if-by_season.false))) (lit≤ tt)
+    (summands (read w32 _ f) e ∙ simp (sym c.by_season.ensures, c.if-by_season.false))) (lit≤ tt)

@@ -16,5 +16,4 @@ returns-in-Some c =
 pub returns-in-Nothing : goal.returns-in-Nothing
 unfolding or_of
 returns-in-Nothing c =
-    let t = c.before.before in
-    promised (held_as (of_i64 t.args.other t.ranges.other t.requires) (simp c.in-Nothing.is)) (lit≤ tt)
+    promised (held_as (of_i64 c.args.other c.ranges.other c.requires) (simp c.in-Nothing.is)) (lit≤ tt)

@@ -6,14 +6,12 @@ use Rattle.schedule.proofs.twilight.own.Goals as goal
 pub returns-then-by_seventh : goal.returns-then-by_seventh
 unfolding own_of
 returns-then-by_seventh c =
-    let t = c.before.before in
-    promised (held_as (of_i64 t.args.seventh t.ranges.seventh t.requires.0)
+    promised (held_as (of_i64 c.args.seventh c.ranges.seventh c.requires.0)
     (simp (sym c.by_seventh.ensures, c.if-by_seventh.true))) (lit≤ tt)
 
 pub returns : goal.returns
 unfolding own_of
 returns c =
-    let t = c.before.before.before in
-    let b = of_i64 t.args.bound t.ranges.bound t.requires.1 in
+    let b = of_i64 c.args.bound c.ranges.bound c.requires.1 in
     promised (held_as (of_near c.or.ensures (lit≤ tt))
-    (ap (or_of t.args.hour) b.is ∙ simp (sym c.by_seventh.ensures, c.if-by_seventh.false))) (lit≤ tt)
+    (ap (or_of c.args.hour) b.is ∙ simp (sym c.by_seventh.ensures, c.if-by_seventh.false))) (lit≤ tt)

@@ -4,42 +4,37 @@ use Rattle.integers.proofs.Integers.{read_back, wide, Held, of_wide, held_differ
 use Rattle.night_portions.specs.Portions.{seventh_of}
 use Rattle.schedule.proofs.Schedule.{night_of, later_of, own_of, fajr_bound_of, unadjusted_fajr_of, both, of_near, held_seventh}
 use Rattle.schedule.proofs.twilight.unadjusted_fajr.Goals as goal
-use Rattle.schedule.proofs.twilight.unadjusted_fajr.Goals.{After-seventh, Start}
-
-sunrise : (t : Start) → SFits w32 t.args.today.sunrise
-sunrise t = search rules
-
--- the time by a seventh of the night, as it is worked
-by-night : (c : After-seventh) → let a = c.args in
-    Held (2 ^ 31 + 2 ^ 33) (read_back w64 (read_back w32 a.today.sunrise) -ℤ read_back w64 c.seventh.result)
-    (a.today.sunrise -ℤ seventh_of (night_of a.today a.next))
-by-night c =
-    let k : read_back w64 c.seventh.result ≡ c.seventh.result = search rules in
-    held_difference (of_wide _ (sunrise c.before.before.before.before.before))
-    (held_by (k ∙ c.seventh.ensures) (held_seventh (of_near c.night-night.ensures (lit≤ tt))))
 
 pub overflow_cast-by_night : goal.overflow_cast-by_night
-overflow_cast-by_night c = wide _ (sunrise c.before.before.before.before)
+overflow_cast-by_night c = let f : SFits w32 c.args.today.sunrise = search rules in wide _ f
 
 pub overflow_sub-by_night : goal.overflow_sub-by_night
-overflow_sub-by_night c = held_fits (by-night c) (lit≤ tt)
+overflow_sub-by_night c =
+    let f : SFits w32 c.args.today.sunrise = search rules in
+    let k : read_back w64 c.seventh.result ≡ c.seventh.result = search rules in
+    let by-night = held_difference (of_wide _ f) (held_by (k ∙ c.seventh.ensures) (held_seventh (of_near c.night-night.ensures (lit≤ tt)))) in
+    held_fits by-night (lit≤ tt)
 
 pub own-requires : goal.own-requires
 own-requires c =
+    let f : SFits w32 c.args.today.sunrise = search rules in
+    let k : read_back w64 c.seventh.result ≡ c.seventh.result = search rules in
+    let by-night = held_difference (of_wide _ f) (held_by (k ∙ c.seventh.ensures) (held_seventh (of_near c.night-night.ensures (lit≤ tt)))) in
     (
-      asked (stored (by-night c) (lit≤ tt)) (lit≤ tt),
+      asked (stored by-night (lit≤ tt)) (lit≤ tt),
       asked (of_near c.fajr_bound-bound.ensures (lit≤ tt)) (lit≤ tt),
     )
 
 pub returns : goal.returns
 unfolding unadjusted_fajr_of
 returns c =
-    let v = c.before.before in
-    let t = v.before.before.before.before.before in
-    let n = of_near v.night-night.ensures (lit≤ tt) in
-    let b = of_near v.fajr_bound-bound.ensures (lit≤ tt) in
-    let bound = b.is ∙ ap (fajr_bound_of t.args.parameters t.args.season t.args.date t.args.today) n.is in
+    let f : SFits w32 c.args.today.sunrise = search rules in
+    let k : read_back w64 c.seventh.result ≡ c.seventh.result = search rules in
+    let by-night = held_difference (of_wide _ f) (held_by (k ∙ c.seventh.ensures) (held_seventh (of_near c.night-night.ensures (lit≤ tt)))) in
+    let n = of_near c.night-night.ensures (lit≤ tt) in
+    let b = of_near c.fajr_bound-bound.ensures (lit≤ tt) in
+    let bound = b.is ∙ ap (fajr_bound_of c.args.parameters c.args.season c.args.date c.args.today) n.is in
     let o = of_near c.own.ensures (lit≤ tt) in
-    let own = o.is ∙ both (λ (s y : ℤ). own_of t.args.parameters.method t.args.season.latitude s t.args.hour y)
-    (stored (by-night v) (lit≤ tt)).is bound in
+    let own = o.is ∙ both (λ (s y : ℤ). own_of c.args.parameters.method c.args.season.latitude s c.args.hour y)
+    (stored by-night (lit≤ tt)).is bound in
     promised (held_as (of_near c.later.ensures (lit≤ tt)) (both later_of own bound)) (lit≤ tt)

@@ -19,17 +19,15 @@ overflow_mul-result c =
 
 pub overflow_add-result : goal.overflow_add-result
 overflow_add-result c =
-    let t = c.before.before.before.before.before.before.before in
-    let f : SFits w32 t.args.parameters.isha_interval = search rules in
-    let g : SFits w32 t.args.today.sunset = search rules in
+    let f : SFits w32 c.args.parameters.isha_interval = search rules in
+    let g : SFits w32 c.args.today.sunset = search rules in
     held_fits (held_sum (of_wide _ g) (stored (held_product (of_wide _ f) 60) (lit≤ tt))) (lit≤ tt)
 
 pub returns-then-parameters-gt0 : goal.returns-then-parameters-gt0
 unfolding unadjusted_isha_of
 returns-then-parameters-gt0 c =
-    let t = c.before.before.before.before.before.before.before in
-    let f : SFits w32 t.args.parameters.isha_interval = search rules in
-    let g : SFits w32 t.args.today.sunset = search rules in
+    let f : SFits w32 c.args.parameters.isha_interval = search rules in
+    let g : SFits w32 c.args.today.sunset = search rules in
     let x = held_sum (of_wide _ g) (stored (held_product (of_wide _ f) 60) (lit≤ tt)) in
     promised (held_as (stored x (lit≤ tt)) (simp (rw (read w32 _ f) at c.if-parameters-gt0.true))) (lit≤ tt)
 

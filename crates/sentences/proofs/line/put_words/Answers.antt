@@ -1,7 +1,7 @@
 -- The row of the table, cut at its text's end, is the text; a text that ends in a colon is followed by the tag's name.
-use Rattle.prelude.proofs.Logic.{◌≡◌, sym, ap, ◌∙◌, arith, length, rules, not-true, not-false}
+use Rattle.prelude.proofs.Logic.{◌≡◌, sym, ap, ◌∙◌, arith, length, rules}
 use Rattle.text.specs.Text.{front_of}
-use Rattle.sentences.specs.{Table.text_of, Table.name_of, Sentences.endsInColon}
+use Rattle.sentences.specs.{Table.text_of, Table.name_of, Sentences.ends_in_colon}
 use Rattle.sentences.proofs.Lines.{text_fine}
 use Rattle.sentences.proofs.Making.{Cut, cut_text, cut_name, first_put, words_of_text, words_of_both}
 use Rattle.sentences.proofs.line.put_words.Goals as goal
@@ -17,15 +17,15 @@ name c = cut_name _ c.name_row-name.result c.end_of-length.result c.name_row-nam
 
 -- the line with the text at its front, and whether the text ends in a colon
 first : (c : After-put) → let a = c.args in
-    c.put.new.0 ≡ front_of (text_of a.number) a.line.now
+    c.put.new.buffer ≡ front_of (text_of a.number) a.line.now
 first c =
     let at-end = c.before.before.before in let a = at-end.args in let p = c.put in
     let long : length a.line.now ≡ 100 = search rules in
-    first_put a.line.now p.new.0 (text_of a.number) (text_fine _).short long (rw (text at-end).text-1 at p.ensures)
+    first_put a.line.now p.new.buffer (text_of a.number) (text_fine _).short long (rw (text at-end).text at p.ensures)
 
 colon : (c : After-ends_in_colon) → let a = c.args in
-    endsInColon (text_of a.number) ≡ c.ends_in_colon.result
-colon c = sym (ap endsInColon (text c.before.before.before.before).text-1) ∙ sym c.ends_in_colon.ensures
+    ends_in_colon (text_of a.number) ≡ c.ends_in_colon.result
+colon c = sym (ap ends_in_colon (text c.before.before.before.before).text) ∙ sym c.ends_in_colon.ensures
 
 pub slice_bounds-text-end : goal.slice_bounds-text-end
 slice_bounds-text-end c = let t = text c.before in omega arith
@@ -39,8 +39,8 @@ ends_in_colon-requires c = (text c.before.before.before).short
 pub returns-then-not-ends_in_colon : goal.returns-then-not-ends_in_colon
 returns-then-not-ends_in_colon c =
     let at-put = c.before.before in let at-end = at-put.before.before.before in let a = at-end.args in
-    let e = colon c.before ∙ not-true _ c.if-not-ends_in_colon.true in
-    let w = words_of_text a.number _ _ at-put.put.new.0 e (first at-put) in
+    let e = colon c.before ∙ c.if-not-ends_in_colon.true in
+    let w = words_of_text a.number _ _ at-put.put.new.buffer e (first at-put) in
     
     record {
       value = (text at-end).ends ∙ w.0;
@@ -63,9 +63,9 @@ returns c =
     let at_name = c.before.before.before in let at-if = at_name.before.before in let at-put = at-if.before.before in
     let at-end = at-put.before.before.before in let a = at-end.args in
     let t = text at-end in let m = name at_name in
-    let e = colon at-if.before ∙ not-false _ at-if.if-not-ends_in_colon.false in
+    let e = colon at-if.before ∙ at-if.if-not-ends_in_colon.false in
     let long : length a.line.now ≡ 100 = search rules in
-    let w = words_of_both _ _ _ at-put.put.new.0 c.put-2.new.0 e long (first at-put)
+    let w = words_of_both _ _ _ at-put.put.new.buffer c.put-2.new.buffer e long (first at-put)
     (rw (m.text, t.ends) at c.put-2.ensures) in
     
     record {

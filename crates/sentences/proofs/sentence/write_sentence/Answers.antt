@@ -3,14 +3,6 @@ use Rattle.prelude.proofs.Logic.{refl, sym, ap, subst, ◌∙◌, ℕ, ◌<◌, 
 use Rattle.sentences.specs.{Guess.none, Sentences.SentenceCall}
 use Rattle.sentences.proofs.Making.{known_by_sentence, unknown_by_sentence, Line, line_of, writes, writes_unknown, writes_no_room}
 use Rattle.sentences.proofs.sentence.write_sentence.Goals as goal
-use Rattle.sentences.proofs.sentence.write_sentence.Goals.{After-put_sentence-length}
-
--- the sentence at the front of its line
-line : (c : After-put_sentence-length) → let a = c.args in
-    Line a.number a.place c.put_sentence-length.result c.put_sentence-length.new.0
-line c =
-    let a = c.args in let s = c.put_sentence-length in let h : a.place < none = search rules in
-    line_of _ s.new.0 a.number a.place s.result s.ensures.value s.ensures.line_after refl h
 
 pub returns-then-length-eq0 : goal.returns-then-length-eq0
 returns-then-length-eq0 c =
@@ -36,21 +28,29 @@ returns-then-length-buffer c =
     }
 
 pub slice_bounds-line-end : goal.slice_bounds-line-end
-slice_bounds-line-end c = let l = line c.before.before.before in omega (arith, l.short, l.long)
+slice_bounds-line-end c =
+    let a = c.args in let s = c.put_sentence-length in let h : a.place < none = search rules in
+    let l = line_of _ s.new.line a.number a.place s.result s.ensures.value s.ensures.line_after refl h in
+    omega (arith, l.short, l.long)
 
 pub slice_bounds-put-end : goal.slice_bounds-put-end
-slice_bounds-put-end c = let l = line c.before.before.before.before in l.ends ∙ sym (ap length l.text)
+slice_bounds-put-end c =
+    let a = c.args in let s = c.put_sentence-length in let h : a.place < none = search rules in
+    let l = line_of _ s.new.line a.number a.place s.result s.ensures.value s.ensures.line_after refl h in
+    l.ends ∙ sym (ap length l.text)
 
 pub overflow_cast-result : goal.overflow_cast-result
 overflow_cast-result c =
-    let at-if = c.before.before.before.before.before in record { fits = omega (arith, (line at-if.before.before).short) }
+    let a = c.args in let s = c.put_sentence-length in let h : a.place < none = search rules in
+    let l = line_of _ s.new.line a.number a.place s.result s.ensures.value s.ensures.line_after refl h in
+    record { fits = omega (arith, l.short) }
 
 pub returns : goal.returns
 returns c =
-    let at-if = c.before.before.before.before.before in let at-put = at-if.before.before in
-    let a = at-put.args in let s = at-put.put_sentence-length in let l = line at-put in
-    let k = known_by_sentence a.number a.place (λ z. at-if.if-length-eq0.false (s.ensures.value ∙ z)) in
-    let w = sym (writes a.number a.place s.result a.buffer.now k l.ends at-if.if-length-buffer.false) in 
+    let a = c.args in let s = c.put_sentence-length in let h : a.place < none = search rules in
+    let l = line_of _ s.new.line a.number a.place s.result s.ensures.value s.ensures.line_after refl h in
+    let k = known_by_sentence a.number a.place (λ z. c.if-length-eq0.false (s.ensures.value ∙ z)) in
+    let w = sym (writes a.number a.place s.result a.buffer.now k l.ends c.if-length-buffer.false) in
     record {
       value = ap (λ (call : SentenceCall). call.answer) w;
       buffer_after = rw l.text at c.put.ensures ∙ ap (λ (call : SentenceCall). call.buffer) w;

@@ -6,16 +6,14 @@ use Rattle.solar.proofs.past_midnight.carried.Goals as goal
 
 pub returns-in-Some : goal.returns-in-Some
 returns-in-Some c =
-    let h = c.before.before.before in
-    let p = h.args.p in
+    let p = c.args.p in
     let f : SFits w32 c.in-Some.time = search rules in
     let from : SolarHour → SolarHour = λ r. carried_from r p.ahead in
-    rw (to_z-of_z f) (sym (carry_from p h.args.minute ∙ ap from (sym h.hour.ensures ∙ c.in-Some.is)))
+    rw (to_z-of_z f) (sym (carry_from p c.args.minute ∙ ap from (sym c.hour.ensures ∙ c.in-Some.is)))
 
 pub returns-in-Nothing : goal.returns-in-Nothing
 returns-in-Nothing c =
-    let h = c.before.before.before in
-    let p = h.args.p in
+    let p = c.args.p in
     let from : SolarHour → SolarHour = λ r. carried_from r p.ahead in
     c.next_midnight.ensures
-    ∙ sym (carry_from p h.args.minute ∙ ap from (sym h.hour.ensures ∙ c.in-Nothing.is))
+    ∙ sym (carry_from p c.args.minute ∙ ap from (sym c.hour.ensures ∙ c.in-Nothing.is))

@@ -12,8 +12,7 @@ returns-then-is_normal c =
     let e3 = c.floor-hours.ensures in
     let e4 = c.is_normal.ensures in
     let e5 = c.has_time.ensures in
-    let at-if2 = c.before.before.before.before in
-    simp (sym e0, sym e1, sym e2, sym e3, sym e4, sym e5, at-if2.if-is_normal.true, at-if2.if-has_time.true)
+    simp (sym e0, sym e1, sym e2, sym e3, sym e4, sym e5, c.if-is_normal.true, c.if-has_time.true)
 
 pub returns-then-has_time : goal.returns-then-has_time
 unfolding carried_hour_of

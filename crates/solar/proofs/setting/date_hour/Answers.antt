@@ -6,14 +6,12 @@ use Rattle.solar.proofs.setting.date_hour.Goals as goal
 
 pub float_to_int-placed : goal.float_to_int-placed
 float_to_int-placed c =
-    let t = c.before.before in
     subst (λ (x : Float). T (in_unsigned binary64 32 x)) (sym c.floor-calculated_hours.ensures)
-    (hours_cast t.args.value t.requires.0 t.requires.1)
+    (hours_cast c.args.value c.requires.0 c.requires.1)
 
 pub returns : goal.returns
 unfolding setting_hour_of
 returns c =
-    let t = c.before.before.before.before in
-    let n = normal t.args.value t.requires.0 t.requires.1 in
-    let p = placed t.args.value t.requires.0 t.requires.1 in
+    let n = normal c.args.value c.requires.0 c.requires.1 in
+    let p = placed c.args.value c.requires.0 c.requires.1 in
     simp (c.hour.ensures, c.date_minute.ensures, c.floor-calculated_hours.ensures, n, p)

@@ -9,28 +9,22 @@ use Rattle.solar.proofs.setting.date_minute.Goals as goal
 pub float_to_int-result : goal.float_to_int-result
 unfolding dec round of_bits
 float_to_int-result c =
-    let t = c.before in
-    let f = t.before.before in
-    (nearest_minute _ _ _ _ _ f.floor-calculated_minutes.ensures f.if-minutes.true f.if-minutes-2.true t.if-seconds.true
-    t.if-seconds-2.true).cast
+    (nearest_minute _ _ _ _ _ c.floor-calculated_minutes.ensures c.if-minutes.true c.if-minutes-2.true c.if-seconds.true
+    c.if-seconds-2.true).cast
 
 pub overflow_add-result : goal.overflow_add-result
 unfolding dec round of_bits
 overflow_add-result c =
-    let t = c.before in
-    let f = t.before.before in
     record {
-      fits = (nearest_minute _ _ _ _ _ f.floor-calculated_minutes.ensures f.if-minutes.true f.if-minutes-2.true
-          t.if-seconds.true t.if-seconds-2.true).room;
+      fits = (nearest_minute _ _ _ _ _ c.floor-calculated_minutes.ensures c.if-minutes.true c.if-minutes-2.true
+          c.if-seconds.true c.if-seconds-2.true).room;
     }
 
 pub returns-then-seconds-2 : goal.returns-then-seconds-2
 unfolding minute_of dec round of_bits
 returns-then-seconds-2 c =
-    let t = c.before in
-    let f = t.before.before in
-    rw (sym f.floor-calculated_minutes.ensures) (nearest_minute _ _ _ _ _ f.floor-calculated_minutes.ensures f.if-minutes.true f.if-minutes-2.true
-    t.if-seconds.true t.if-seconds-2.true).is
+    rw (sym c.floor-calculated_minutes.ensures) (nearest_minute _ _ _ _ _ c.floor-calculated_minutes.ensures c.if-minutes.true c.if-minutes-2.true
+    c.if-seconds.true c.if-seconds-2.true).is
 
 pub returns : goal.returns
 returns c = c.minute.ensures

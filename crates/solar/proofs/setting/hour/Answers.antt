@@ -7,17 +7,15 @@ use Rattle.solar.proofs.setting.hour.Goals as goal
 
 pub overflow_sub-result : goal.overflow_sub-result
 overflow_sub-result c =
-    let t = c.before.before in
-    let n = t.args.p.ahead * 86400 + t.args.p.hour * 3600 + t.args.minute * 60 in
+    let n = c.args.p.ahead * 86400 + c.args.p.hour * 3600 + c.args.minute * 60 in
     let h : n < 2147483648 = search rules in
     cases.back_fits n h
 
 pub returns-then-hour-lt24 : goal.returns-then-hour-lt24
 returns-then-hour-lt24 c =
-    let t = c.before.before in
-    let n = t.args.p.ahead * 86400 + t.args.p.hour * 3600 + t.args.minute * 60 in
+    let n = c.args.p.ahead * 86400 + c.args.p.hour * 3600 + c.args.minute * 60 in
     let h : n < 2147483648 = search rules in
-    ap Some (cases.back n h) ∙ cases.on-hour t.args.p t.args.minute c.if-minute-lt60.true c.if-hour-lt24.true
+    ap Some (cases.back n h) ∙ cases.on-hour c.args.p c.args.minute c.if-minute-lt60.true c.if-hour-lt24.true
 
 pub returns-then-minute-lt60 : goal.returns-then-minute-lt60
 unfolding hour_of
@@ -25,19 +23,16 @@ returns-then-minute-lt60 c = simp (le-ltb _ _ c.if-hour-lt24.false, lt-ltb _ _ c
 
 pub overflow_sub-result-then-hour-lt23 : goal.overflow_sub-result-then-hour-lt23
 overflow_sub-result-then-hour-lt23 c =
-    let t = c.before.before in
-    let n = t.args.p.ahead * 86400 + (t.args.p.hour + 1) * 3600 in
+    let n = c.args.p.ahead * 86400 + (c.args.p.hour + 1) * 3600 in
     let h : n < 2147483648 = search rules in
     cases.back_fits n h
 
 pub returns-then-hour-lt23 : goal.returns-then-hour-lt23
 returns-then-hour-lt23 c =
-    let t = c.before.before in
-    let n = t.args.p.ahead * 86400 + (t.args.p.hour + 1) * 3600 in
+    let n = c.args.p.ahead * 86400 + (c.args.p.hour + 1) * 3600 in
     let h : n < 2147483648 = search rules in
-    ap Some (cases.back n h) ∙ cases.next-hour t.args.p t.args.minute c.if-minute-lt60.false c.if-hour-lt23.true
+    ap Some (cases.back n h) ∙ cases.next-hour c.args.p c.args.minute c.if-minute-lt60.false c.if-hour-lt23.true
 
 pub returns : goal.returns
 returns c =
-    let t = c.before.before in
-    cases.no-hour t.args.p t.args.minute c.if-minute-lt60.false c.if-hour-lt23.false
+    cases.no-hour c.args.p c.args.minute c.if-minute-lt60.false c.if-hour-lt23.false

@@ -8,4 +8,4 @@ pub returns : goal.returns
 returns c =
     let a = c.args in
     simp (c.solar_hour.ensures, c.afternoon_number.ensures, c.date_course-course.ensures)
-    (ap (solar_hour_of a.rule) (afternoon-shared (sun_on a.coordinates a.date) a.shadow-length))
+    (ap (solar_hour_of a.rule) (afternoon-shared (sun_on a.coordinates a.date) a.shadow_length))

@@ -14,8 +14,7 @@ returns-in_default-sunrise c = simp (c.in_default-sunrise.is, c.in-Some.is)
 pub returns-in_default-sunset : goal.returns-in_default-sunset
 unfolding day_of
 returns-in_default-sunset c =
-    let at-sunrise = c.before.before.before in
-    simp (c.in_default-sunset.is, at-sunrise.in-Some-sunrise.is, at-sunrise.in-Some.is)
+    simp (c.in_default-sunset.is, c.in-Some-sunrise.is, c.in-Some.is)
 
 pub returns : goal.returns
 unfolding day_of
@@ -23,6 +22,4 @@ returns c =
     let f0 : SFits w32 c.in-Some.transit = search rules in
     let f1 : SFits w32 c.in-Some-sunrise.sunrise = search rules in
     let f2 : SFits w32 c.in-Some-sunset.sunset = search rules in
-    let at-sunrise = c.before.before.before.before in
-    let at-transit = at-sunrise.before.before.before in
-    simp (to_z-of_z f0, to_z-of_z f1, to_z-of_z f2, c.in-Some-sunset.is, at-sunrise.in-Some-sunrise.is, at-transit.in-Some.is)
+    simp (to_z-of_z f0, to_z-of_z f1, to_z-of_z f2, c.in-Some-sunset.is, c.in-Some-sunrise.is, c.in-Some.is)

@@ -2,7 +2,7 @@
 use Rattle.prelude.proofs.Logic.{◌≡◌, refl, sym, ap, ◌∙◌, append-nil, ◌-◌, ◌^◌, ◌<◌, arith, length, set, take, drop, length-set}
 use Rattle.prelude.proofs.Logic.{length-drop, take_all, rules}
 use Rattle.text.specs.Text.{digit_of, decimal_of}
-use Rattle.text.proofs.Spelling.{Spelled, last_digit, not_first, one_more}
+use Rattle.text.proofs.Spelling.{last_digit, not_first, one_more}
 use Rattle.text.proofs.decimal.put_decimal.Goals as goal
 
 pub loop-rest-init : goal.loop-rest-init
@@ -16,7 +16,7 @@ bounds-digits-first c = let i = c.loop-rest.invariant.index in omega arith
 pub overflow_sub-first : goal.overflow_sub-first
 overflow_sub-first c =
     let l = c.loop-rest in
-      not_first c.args.n l.digits l.first l.rest l.invariant c.loop-rest-test.true
+    not_first c.args.n l.digits l.first l.rest l.invariant c.loop-rest-test.true
 
 pub loop-rest-preserved : goal.loop-rest-preserved
 loop-rest-preserved c =
@@ -45,7 +45,7 @@ returns c =
     let d : drop l.first done ≡ decimal_of a.n = last_digit a.n l.digits l.first l.rest l.invariant
     c.loop-rest-test.false in
     let n = length-drop l.first done in let m : length (decimal_of a.n) ≡ length (drop l.first done) = ap length (sym d) in
-    let t : take (20 - l.first) (decimal_of a.n) ≡ decimal_of a.n = take_all (20 - l.first) (decimal_of a.n) (omega arith) in 
+    let t : take (20 - l.first) (decimal_of a.n) ≡ decimal_of a.n = take_all (20 - l.first) (decimal_of a.n) (omega arith) in
     record {
       value = omega arith;
       buffer_after = rw (d, t) at (simp c.digit-2.ensures at c.put.ensures);

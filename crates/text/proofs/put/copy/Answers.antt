@@ -1,5 +1,5 @@
 -- Invariant: the first i bytes of the text are in the buffer from the offset on.
-use Rattle.prelude.proofs.Logic.{◌≡◌, refl, sym, ◌∙◌, ◌+◌, ◌-◌, ◌≤◌, add-one, arith, length, get_or, set, length-set, paste, paste-zero}
+use Rattle.prelude.proofs.Logic.{◌≡◌, refl, sym, ◌∙◌, ◌+◌, add-one, arith, length, get_or, set, length-set, paste, paste-zero}
 use Rattle.prelude.proofs.Logic.{paste-suc, rules}
 use Rattle.text.proofs.put.copy.Goals as goal
 

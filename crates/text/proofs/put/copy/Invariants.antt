@@ -1,5 +1,4 @@
-use Rattle.prelude.proofs.Logic.{◌≡◌, refl, sym, ◌∙◌, ◌+◌, ◌-◌, ◌≤◌, add-one, arith, length, get_or, set, length-set, paste, paste-zero}
-use Rattle.prelude.proofs.Logic.{paste-suc, rules}
+use Rattle.prelude.proofs.Logic.{◌≡◌, ◌-◌, ◌≤◌, length, paste}
 use Rattle.text.proofs.put.copy.Given as goal
 
 abbrev pub invariant-loop-i : goal.invariant-loop-i

@@ -1,5 +1,5 @@
 -- The number is made in an array of its own, and its bytes are put at the offset.
-use Rattle.prelude.proofs.Logic.{sym, ap, ◌∙◌, arith, length, rules, w64}
+use Rattle.prelude.proofs.Logic.{sym, ap, ◌∙◌, arith, length, w64}
 use Rattle.integers.proofs.Ranges.{read}
 use Rattle.text.specs.Signed.{signed_of}
 use Rattle.text.proofs.SignedLaws.{signed_length}
@@ -20,15 +20,14 @@ slice_bounds-put-end c =
     let m = c.make_signed-end in
     let x = read w64 s.args.z s.ranges.z in
     let e = rw x at m.ensures.value in
-    e ∙ sym (ap length (cut_front (signed_of s.args.z) _ m.new.0 m.result e (rw x at m.ensures.text_after)))
+    e ∙ sym (ap length (cut_front (signed_of s.args.z) _ m.new.text m.result e (rw x at m.ensures.text_after)))
 
 pub returns : goal.returns
 returns c =
     let s = c.before.before.before.before.before.before.before.before.before in
     let m = c.make_signed-end in
     let x = read w64 s.args.z s.ranges.z in
-    let t = cut_front (signed_of s.args.z) _ m.new.0 m.result (rw x at m.ensures.value) (rw x at m.ensures.text_after) in
-    
+    let t = cut_front (signed_of s.args.z) _ m.new.text m.result (rw x at m.ensures.value) (rw x at m.ensures.text_after) in
     record {
       value = rw x at m.ensures.value;
       buffer_after = rw t at c.put.ensures;

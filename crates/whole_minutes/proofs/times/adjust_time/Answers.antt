@@ -24,5 +24,5 @@ returns c =
     let r = c.plus-2.result in
     let p : read_back w64 x ≡ x = search rules in
     let q : read_back w64 r ≡ r = search rules in
-    minutes.adjusted-is s.args.t s.args.minutes s.ranges.t s.ranges.minutes x r (mul-half c.before.before) p q
+    minutes.adjusted-is s.args.t s.args.minutes s.ranges.t s.ranges.minutes x r (overflow_mul-half c.before.before) p q
     c.plus.ensures c.plus-2.ensures

@@ -15,7 +15,7 @@ overflow_add-result c =
     saturation.in-fits s.args.a s.args.b s.ranges.a s.ranges.b c.if-b-ge0.true c.if-a-b.false
 
 pub returns-then-b-ge0 : goal.returns-then-b-ge0
-returns-then-b-ge0 c = let s = c.before.before in saturation.added s.args.a s.args.b s.ranges.a s.ranges.b (add-result c)
+returns-then-b-ge0 c = let s = c.before.before in saturation.added s.args.a s.args.b s.ranges.a s.ranges.b (overflow_add-result c)
 
 pub overflow_sub-b-2 : goal.overflow_sub-b-2
 overflow_sub-b-2 c = let s = c.before in saturation.room-fits' s.args.a s.args.b s.ranges.a s.ranges.b c.if-b-ge0.false
@@ -31,4 +31,4 @@ overflow_add-result-2 c =
     saturation.in-fits' s.args.a s.args.b s.ranges.a s.ranges.b c.if-b-ge0.false c.if-a-b-2.false
 
 pub returns : goal.returns
-returns c = let s = c.before.before in saturation.added s.args.a s.args.b s.ranges.a s.ranges.b (add-result-2 c)
+returns c = let s = c.before.before in saturation.added s.args.a s.args.b s.ranges.a s.ranges.b (overflow_add-result-2 c)

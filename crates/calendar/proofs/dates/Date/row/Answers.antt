@@ -1,5 +1,5 @@
 -- A date that does not exist is every row's; a day up to the 28th is in the month of the first row; all others are found by their number.
-use Rattle.prelude.proofs.Logic.{◌≡◌, sym, ap, ◌∙◌, true, arith, rules, w64, SFits, not-true, not-false}
+use Rattle.prelude.proofs.Logic.{◌≡◌, sym, ap, ◌∙◌, true, arith, rules, w64, SFits}
 use Rattle.calendar.specs.Answers.{from_of, of_day_of}
 use Rattle.calendar.specs.Gregorian.{exists_of}
 use Rattle.calendar.proofs.ByMonth.{from_none, row_early}
@@ -8,10 +8,10 @@ use Rattle.calendar.proofs.dates.Date.row.Goals as goal
 use Rattle.calendar.proofs.dates.Date.row.Goals.{Else-not-exists}
 
 here : (e : Else-not-exists) → exists_of e.args.self ≡ true
-here e = sym e.exists.ensures ∙ not-false _ e.if-not-exists.false
+here e = sym e.exists.ensures ∙ e.if-not-exists.false
 
 pub returns-then-not-exists : goal.returns-then-not-exists
-returns-then-not-exists c = from_none _ _ (sym c.exists.ensures ∙ not-true _ c.if-not-exists.true)
+returns-then-not-exists c = from_none _ _ (sym c.exists.ensures ∙ c.if-not-exists.true)
 
 pub returns-then-row-day : goal.returns-then-row-day
 returns-then-row-day c =

@@ -1,13 +1,13 @@
--- The cases of `tomorrowOf` in the code's order: a date that does not exist, one that every month has a day after, one within its month,
+-- The cases of `tomorrow_of` in the code's order: a date that does not exist, one that every month has a day after, one within its month,
 -- the last of a month, of all years, of a year.
-use Rattle.prelude.proofs.Logic.{◌≡◌, sym, ◌∙◌, true, arith, rules, not-true, not-false}
+use Rattle.prelude.proofs.Logic.{◌≡◌, sym, ◌∙◌, true, arith, rules}
 use Rattle.calendar.specs.Gregorian.{days_in_month_of, exists_of}
 use Rattle.calendar.proofs.ByMonth.{from_none, day-later, day-later-early, month-later, year-later, last-of-all}
 use Rattle.calendar.proofs.dates.Date.tomorrow.Goals as goal
 use Rattle.calendar.proofs.dates.Date.tomorrow.Goals.{After-month_days, Else-not-exists}
 
 here : (e : Else-not-exists) → exists_of e.args.self ≡ true
-here e = sym e.exists.ensures ∙ not-false _ e.if-not-exists.false
+here e = sym e.exists.ensures ∙ e.if-not-exists.false
 
 -- what is known before the month's days are asked for
 abbrev first : After-month_days → Else-not-exists
@@ -19,7 +19,7 @@ days : (m : After-month_days) → let d = (first m).args.self in
 days m = cc
 
 pub returns-then-not-exists : goal.returns-then-not-exists
-returns-then-not-exists c = from_none _ _ (sym c.exists.ensures ∙ not-true _ c.if-not-exists.true)
+returns-then-not-exists c = from_none _ _ (sym c.exists.ensures ∙ c.if-not-exists.true)
 
 pub returns-then-day-lt-SHORTEST_MONTH : goal.returns-then-day-lt-SHORTEST_MONTH
 returns-then-day-lt-SHORTEST_MONTH c =

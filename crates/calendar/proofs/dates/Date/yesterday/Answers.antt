@@ -1,16 +1,16 @@
--- The cases of `yesterdayOf` in the code's order: a date that does not exist, one within its month, the first of a month, 0000-01-01, the
+-- The cases of `yesterday_of` in the code's order: a date that does not exist, one within its month, the first of a month, 0000-01-01, the
 -- first of a year.
-use Rattle.prelude.proofs.Logic.{◌≡◌, sym, ap, ◌∙◌, Bool, ℕ, true, ◌-◌, rules, not-true, not-false}
+use Rattle.prelude.proofs.Logic.{◌≡◌, sym, ap, ◌∙◌, Bool, ℕ, true, ◌-◌, rules}
 use Rattle.calendar.specs.Gregorian.{date_of, length_of, exists_of}
 use Rattle.calendar.proofs.ByMonth.{from_none, day-earlier, month-earlier, year-earlier, first-of-all}
 use Rattle.calendar.proofs.dates.Date.yesterday.Goals as goal
 use Rattle.calendar.proofs.dates.Date.yesterday.Goals.{Else-not-exists}
 
 here : (e : Else-not-exists) → exists_of e.args.self ≡ true
-here e = sym e.exists.ensures ∙ not-false _ e.if-not-exists.false
+here e = sym e.exists.ensures ∙ e.if-not-exists.false
 
 pub returns-then-not-exists : goal.returns-then-not-exists
-returns-then-not-exists c = from_none _ _ (sym c.exists.ensures ∙ not-true _ c.if-not-exists.true)
+returns-then-not-exists c = from_none _ _ (sym c.exists.ensures ∙ c.if-not-exists.true)
 
 pub returns-then-day-gt1 : goal.returns-then-day-gt1
 returns-then-day-gt1 c = c.new.ensures ∙ day-earlier _ (here c.before.before) (search rules) c.if-day-gt1.true

@@ -5,7 +5,7 @@ use Rattle.fields.proofs.values.Fields.part.Goals as goal
 
 pub returns : goal.returns
 returns c =
-    let f = c.args.t1 in
+    let f = c.args.self in
     let l : length f.at ≡ length tags = search rules in
     let m : length f.length ≡ length tags = search rules in
     let low : get_or f.at c.args.tag 0 ≡ 0 = List·getD-eq-default f.at 0 (omega arith) in

@@ -1,11 +1,11 @@
 -- Each test of the code is the same test of `exists_of`.
-use Rattle.prelude.proofs.Logic.{sym, lt-ltb, le-ltb, le-leb, lt-leb}
+use Rattle.prelude.proofs.Logic.{sym, le-leb, lt-leb}
 use Rattle.hijri.specs.Rule.{exists_of}
 use Rattle.hijri.proofs.dates.Tabular.exists.Goals as goal
 
 pub returns-then-self-lt1 : goal.returns-then-self-lt1
 unfolding exists_of
-returns-then-self-lt1 c = simp (lt-ltb _ _ c.if-self-lt1.true, lt-leb _ _ c.if-self-lt1.true)
+returns-then-self-lt1 c = simp (lt-leb _ _ c.if-self-lt1.true)
 
 pub returns-then-self-ge1 : goal.returns-then-self-ge1
 unfolding exists_of
@@ -16,9 +16,7 @@ returns-then-self-ge1 c =
       sym at-days.month_days-days.ensures,
       sym at-days.is_leap_year.ensures,
       le-leb _ _ c.if-self-ge1.true,
-      le-ltb _ _ c.if-self-ge1.true,
       le-leb _ _ first,
-      le-ltb _ _ first,
     )
 
 pub returns-else-self-ge1 : goal.returns-else-self-ge1
@@ -27,10 +25,7 @@ returns-else-self-ge1 c =
     let at-days = c.before.before in
     let first = at-days.if-self-lt1.false in
     simp (
-      sym at-days.month_days-days.ensures,
       sym at-days.is_leap_year.ensures,
-      lt-ltb _ _ c.if-self-ge1.false,
       lt-leb _ _ c.if-self-ge1.false,
       le-leb _ _ first,
-      le-ltb _ _ first,
     )

@@ -1,4 +1,4 @@
-use Rattle.prelude.proofs.Logic.{◌≡◌, refl, ℕ, zero, suc}
+use Rattle.prelude.proofs.Logic.{◌≡◌, refl, ℕ, zero, suc, arith}
 use Rattle.models.proofs.Models.{Hanafi, madhab_of}
 use Rattle.models.proofs.madhab.Madhab.of_number.Goals as goal
 
@@ -16,4 +16,4 @@ returns-in-1 c = simp c.in-1.is
 
 pub returns-in_default : goal.returns-in_default
 unfolding madhab_of
-returns-in_default c = rest c.args.n c.in-1.rest.1
+returns-in_default c = rest c.args.n (λ e. omega arith)

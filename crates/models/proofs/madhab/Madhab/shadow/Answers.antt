@@ -4,7 +4,6 @@ use Rattle.models.proofs.Models.{Madhab, Shafi, Hanafi, madhab_number_of}
 use Rattle.models.proofs.madhab.Madhab.shadow.Goals as goal
 
 small : (m : Madhab) → SFits w32 (pos (madhab_number_of m))
-unfolding madhab_number_of
 small Shafi = record { sfits = lit< tt }
 small Hanafi = record { sfits = lit< tt }
 

@@ -14,13 +14,13 @@ returns-in-Sunrise c = simp c.in-Sunrise.is
 pub returns-then-is_friday : goal.returns-then-is_friday
 unfolding prayer_name_of
 returns-then-is_friday c =
-    let t = c.before.before.before.before in let e = c.is_friday.ensures ∙ ap is_friday_of
+    let t = c in let e = c.is_friday.ensures ∙ ap is_friday_of
     (read w64 t.args.seconds t.ranges.seconds) in simp (c.in-Dhuhr.is, sym e, c.if-is_friday.true)
 
 pub returns-else-is_friday : goal.returns-else-is_friday
 unfolding prayer_name_of
 returns-else-is_friday c =
-    let t = c.before.before.before.before in let e = c.is_friday.ensures ∙ ap is_friday_of
+    let t = c in let e = c.is_friday.ensures ∙ ap is_friday_of
     (read w64 t.args.seconds t.ranges.seconds) in simp (c.in-Dhuhr.is, sym e, c.if-is_friday.false)
 
 pub returns-in-Asr : goal.returns-in-Asr

@@ -1,3 +1,4 @@
+use Rattle.prelude.proofs.Logic.{arith}
 use Rattle.models.proofs.Models.{Stops, Carries, midnight_of, second}
 use Rattle.models.proofs.rules.Midnight.of_number.Goals as goal
 
@@ -7,4 +8,4 @@ returns-in-0 c = simp c.in-0.is
 
 pub returns-in_default : goal.returns-in_default
 unfolding midnight_of
-returns-in_default c = second Stops Carries c.args.n c.in-0.rest.1
+returns-in_default c = second Stops Carries c.args.n (λ e. omega arith)

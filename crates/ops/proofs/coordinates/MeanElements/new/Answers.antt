@@ -2,5 +2,4 @@ use Rattle.ops.proofs.coordinates.MeanElements.new.Goals as goal
 
 pub returns : goal.returns
 returns c =
-    let b = c.before in
-    simp (c.mean_obliquity_of_the_ecliptic.ensures, b.mean_solar_longitude.ensures, b.julian_century-century.ensures)
+    simp (c.mean_obliquity_of_the_ecliptic.ensures, c.mean_solar_longitude.ensures, c.julian_century-century.ensures)

@@ -3,5 +3,4 @@ use Rattle.ops.proofs.coordinates.SolarCoordinates.new.Goals as goal
 
 pub returns : goal.returns
 returns c =
-    let b = c.before.before.before in
-    simp (c.sidereal_time.ensures, b.place-place.ensures, b.new-mean.ensures, mean_place, mean_sidereal)
+    simp (c.sidereal_time.ensures, c.place-place.ensures, c.new-mean.ensures, mean_place, mean_sidereal)

@@ -9,11 +9,10 @@ returns-then-by_seventh c = simp (sym c.by_seventh.ensures, c.if-by_seventh.true
 pub returns : goal.returns
 unfolding fajr_asked_of
 returns c =
-    let test = c.before.before.before.before in
     simp (
       c.solar_hour.ensures,
       c.sine_number.ensures,
       c.new-angle.ensures,
-      sym test.by_seventh.ensures,
-      test.if-by_seventh.false,
+      sym c.by_seventh.ensures,
+      c.if-by_seventh.false,
     )

@@ -3,33 +3,28 @@ use Rattle.prelude.proofs.Logic.{sym, rules, w32, SFits}
 use Rattle.integers.proofs.Ranges.{read}
 use Rattle.schedule.specs.Asked.{isha_asked_of}
 use Rattle.schedule.proofs.angles.TwilightSines.isha_hour.Goals as goal
-use Rattle.schedule.proofs.angles.TwilightSines.isha_hour.Goals.{Start}
-
-interval : (t : Start) → SFits w32 t.args.setting.parameters.isha_interval
-interval t = search rules
 
 pub returns-then-parameters-gt0 : goal.returns-then-parameters-gt0
 unfolding isha_asked_of
 returns-then-parameters-gt0 c =
-    simp (rw (read w32 _ (interval c.before.before.before.before.before.before)) at c.if-parameters-gt0.true)
+    let f : SFits w32 c.args.setting.parameters.isha_interval = search rules in
+    simp (rw (read w32 _ f) at c.if-parameters-gt0.true)
 
 pub returns-then-by_seventh : goal.returns-then-by_seventh
 unfolding isha_asked_of
 returns-then-by_seventh c =
-    let none = c.before.before in
-    let at_here = none.before.before.before.before.before.before in
-    simp (rw (read w32 _ (interval (at_here))) at none.if-parameters-gt0.false, sym c.by_seventh.ensures, c.if-by_seventh.true)
+    let f : SFits w32 c.args.setting.parameters.isha_interval = search rules in
+    simp (rw (read w32 _ f) at c.if-parameters-gt0.false, sym c.by_seventh.ensures, c.if-by_seventh.true)
 
 pub returns : goal.returns
 unfolding isha_asked_of
 returns c =
-    let angle = c.before.before.before.before in
-    let none = angle.before.before in
+    let f : SFits w32 c.args.setting.parameters.isha_interval = search rules in
     simp (
       c.solar_hour.ensures,
       c.sine_number.ensures,
       c.new-angle.ensures,
-      rw (read w32 _ (interval none.before.before.before.before.before.before)) at none.if-parameters-gt0.false,
-      sym angle.by_seventh.ensures,
-      angle.if-by_seventh.false,
+      rw (read w32 _ f) at c.if-parameters-gt0.false,
+      sym c.by_seventh.ensures,
+      c.if-by_seventh.false,
     )

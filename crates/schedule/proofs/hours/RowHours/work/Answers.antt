@@ -9,8 +9,7 @@ started-requires c = subst NearIn c.in-Times.is c.since_midnight.ensures.1
 pub returns-in-Times : goal.returns-in-Times
 unfolding started_in NearIn
 returns-in-Times c =
-    let m = c.before.before in
-    simp (c.started.ensures, sym m.since_midnight.ensures.0, m.in-Times.is)
+    simp (c.started.ensures, sym c.since_midnight.ensures.0, c.in-Times.is)
 
 pub returns-in-Refused : goal.returns-in-Refused
 unfolding started_in NearIn

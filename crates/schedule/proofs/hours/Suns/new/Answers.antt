@@ -9,16 +9,14 @@ returns-in-Lacks c = simp (c.new.ensures, c.in-Lacks.is)
 pub returns-in-Lacks-tomorrow : goal.returns-in-Lacks-tomorrow
 unfolding suns_of
 returns-in-Lacks-tomorrow c =
-    let b = c.before.before in simp (c.new-in-Lacks-tomorrow.ensures, b.in-Lacks-tomorrow.is, b.in-Whole.is)
+    simp (c.new-in-Lacks-tomorrow.ensures, c.in-Lacks-tomorrow.is, c.in-Whole.is)
 
 pub returns-in-Lacks-after : goal.returns-in-Lacks-after
 unfolding suns_of
 returns-in-Lacks-after c =
-    let a = c.before.before in let b = a.before.before.before in
-    simp (c.new-in-Lacks-after.ensures, a.in-Lacks-after.is, b.in-Whole-tomorrow.is, b.in-Whole.is)
+    simp (c.new-in-Lacks-after.ensures, c.in-Lacks-after.is, c.in-Whole-tomorrow.is, c.in-Whole.is)
 
 pub returns-in-Whole-after : goal.returns-in-Whole-after
 unfolding suns_of
 returns-in-Whole-after c =
-    let a = c.before in let b = a.before.before.before in
-    simp (a.in-Whole-after.is, b.in-Whole-tomorrow.is, b.in-Whole.is)
+    simp (c.in-Whole-after.is, c.in-Whole-tomorrow.is, c.in-Whole.is)

@@ -16,19 +16,16 @@ returns-in_default-place c = simp (c.in_default-place.is, c.in-Some.is)
 pub returns-in_default-params : goal.returns-in_default-params
 unfolding calculated_from
 returns-in_default-params c =
-    let place = c.before.before.before in
-    simp (c.in_default-params.is, place.in-Some-place.is, place.in-Some.is)
+    simp (c.in_default-params.is, c.in-Some-place.is, c.in-Some.is)
 
 pub returns : goal.returns
 unfolding calculated_from
 returns c =
-    let params = c.before.before.before.before in
-    let place = params.before.before.before in
     simp (
       c.work.ensures,
       c.new.ensures,
       c.source.ensures,
-      params.in-Some-params.is,
-      place.in-Some-place.is,
-      place.in-Some.is,
+      c.in-Some-params.is,
+      c.in-Some-place.is,
+      c.in-Some.is,
     ) (ap Some (first_row _ _))

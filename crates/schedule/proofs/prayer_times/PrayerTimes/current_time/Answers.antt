@@ -11,8 +11,7 @@ use Rattle.schedule.proofs.prayer_times.PrayerTimes.current_time.Goals.{After-ah
 looked : (c : After-ahead) → let a = c.args in
     c.ahead.result ≡ ahead_of (time_of a.self (prayer_of c.loop-n.n)) a.instant
 looked c =
-    let at-loop = c.before.before.before.before in
-    let a = at-loop.args in
+    let a = c.args in
     let k : read_back w64 c.time.result ≡ c.time.result = search rules in
     c.ahead.ensures ∙ ap (λ (z : ℤ). ahead_of z a.instant)
     (k ∙ c.time.ensures ∙ ap (time_of a.self) c.of_number-prayer.ensures)
@@ -23,21 +22,18 @@ loop-n-init c = (omega arith, refl)
 
 pub returns-then-ahead-eq0 : goal.returns-then-ahead-eq0
 returns-then-ahead-eq0 c =
-    let at_test = c.before.before.before.before in
-    let l = at_test.loop-n in
-    let a = at_test.args in
+    let l = c.loop-n in
+    let a = c.args in
     ap Some c.of_number-prayer.ensures
-    ∙ sym (due.found a.self a.instant l.n at_test.loop-n-test.true (sym (looked c.before) ∙ c.if-ahead-eq0.true)) ∙ l.invariant.1
+    ∙ sym (due.found a.self a.instant l.n c.loop-n-test.true (sym (looked c.before) ∙ c.if-ahead-eq0.true)) ∙ l.invariant.1
 
 pub loop-n-preserved : goal.loop-n-preserved
 loop-n-preserved c =
-    let at_test = c.before.before.before.before in
-    let l = at_test.loop-n in
-    let a = at_test.args in
-    let passed = due.passed a.self a.instant l.n at_test.loop-n-test.true (λ e. c.if-ahead-eq0.false (looked c.before ∙ e)) in
+    let l = c.loop-n in
+    let a = c.args in
+    let passed = due.passed a.self a.instant l.n c.loop-n-test.true (λ e. c.if-ahead-eq0.false (looked c.before ∙ e)) in
     (omega (arith, l.invariant.0), sym passed ∙ l.invariant.1)
 
 pub returns : goal.returns
 returns c =
-    let t = c.before.before in
-    sym (due.exhausted t.args.self t.args.instant c.loop-n.n c.loop-n-test.false) ∙ c.loop-n.invariant.1
+    sym (due.exhausted c.args.self c.args.instant c.loop-n.n c.loop-n-test.false) ∙ c.loop-n.invariant.1

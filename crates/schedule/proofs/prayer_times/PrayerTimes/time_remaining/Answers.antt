@@ -8,16 +8,13 @@ use Rattle.schedule.proofs.prayer_times.PrayerTimes.time_remaining.Goals as goal
 pub returns-in-Some : goal.returns-in-Some
 unfolding until_of
 returns-in-Some c =
-    let at-prayer = c.before.before.before.before in
-    let t = at-prayer.before.before.before in
     let time = c.time in
     let k : read_back w64 time.result ≡ time.result = search rules in
-    let a = c.ahead-seconds.ensures ∙ ap (λ (z : ℤ). ahead_of z t.args.instant) (k ∙ time.ensures) in
+    let a = c.ahead-seconds.ensures ∙ ap (λ (z : ℤ). ahead_of z c.args.instant) (k ∙ time.ensures) in
     ap Some (c.hours_minutes.ensures ∙ ap hours_minutes_of a)
-    ∙ ap (until_of t.args.self t.args.instant) (sym at-prayer.in-Some.is ∙ at-prayer.next.ensures)
+    ∙ ap (until_of c.args.self c.args.instant) (sym c.in-Some.is ∙ c.next.ensures)
 
 pub returns-in-Nothing : goal.returns-in-Nothing
 unfolding until_of
 returns-in-Nothing c =
-    let t = c.before.before.before in
-    ap (until_of t.args.self t.args.instant) (sym c.in-Nothing.is ∙ c.next.ensures)
+    ap (until_of c.args.self c.args.instant) (sym c.in-Nothing.is ∙ c.next.ensures)

@@ -5,14 +5,12 @@ use Rattle.schedule.proofs.rolling.RowSuns.new.Goals as goal
 pub returns : goal.returns
 unfolding row_suns_of
 returns c =
-    let suns = c.before.before in
-    let courses = suns.before.before.before.before.before.before.before.before in
     simp (
       c.fajr_hour-2.ensures,
       c.fajr_hour.ensures,
-      suns.new-3.ensures,
-      suns.new-2.ensures,
-      suns.new.ensures,
-      courses.new-courses.ensures,
-      courses.new-sines.ensures,
+      c.new-3.ensures,
+      c.new-2.ensures,
+      c.new.ensures,
+      c.new-courses.ensures,
+      c.new-sines.ensures,
     )
