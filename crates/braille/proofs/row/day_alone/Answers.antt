@@ -7,4 +7,4 @@ returns c =
     let date = c.args.date in
     let day = c.day_cells in
     let put = c.put in
-    refused_done date put.new.0 (day_put date (replicate 39 0) put.new.0 day.result refl day.ensures put.ensures)
+    refused_done date put.new.buffer (day_put date (replicate 39 0) put.new.buffer day.result refl day.ensures put.ensures)

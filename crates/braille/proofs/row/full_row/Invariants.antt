@@ -8,7 +8,7 @@ use Rattle.braille.proofs.row.full_row.Given as goal
 
 abbrev pub invariant-loop-i : goal.invariant-loop-i
 invariant-loop-i l =
-    (l.i ≤ 6) × (length l.cells ≡ 39) × (length l.initial.cells ≡ 39) × (l.cells ≡ put_of l.initial.cells 3 (times_cells (to_z w32 l.clock) (take l.i l.six)))
+    (l.i ≤ 6) × (length l.cells ≡ 39) × (length l.initial.cells ≡ 39) × (l.cells ≡ put_of l.initial.cells 3 (times_cells l.clock (take l.i l.six)))
 
 abbrev pub decreases-loop-i : goal.decreases-loop-i
 decreases-loop-i l = 6 - l.i
