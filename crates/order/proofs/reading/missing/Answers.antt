@@ -1,7 +1,7 @@
 -- Invariant: the first tag that fails from here on is the first of all that fails.
-use Rattle.prelude.proofs.Logic.{◌≡◌, refl, sym, ◌∙◌, ◌-◌, ◌≤◌, arith, drop, rules}
+use Rattle.prelude.proofs.Logic.{refl, sym, ◌∙◌, arith, rules}
 use Rattle.fields.specs.Values.{has_in}
-use Rattle.order.specs.Reading.{first_failing, required, is_given_of, missing_of}
+use Rattle.order.specs.Reading.{required, is_given_of, missing_of}
 use Rattle.order.proofs.Tags.{fails, on, none}
 use Rattle.order.proofs.reading.missing.Goals as goal
 

@@ -1,5 +1,5 @@
 -- Invariant: the first tag that fails from here on is the first of all that fails.
-use Rattle.prelude.proofs.Logic.{◌≡◌, refl, sym, ◌∙◌, Bool, ℕ, arith, drop, rules}
+use Rattle.prelude.proofs.Logic.{◌≡◌, refl, sym, ◌∙◌, Bool, ℕ, arith, drop}
 use Rattle.fields.specs.Tags.{last_tag}
 use Rattle.fields.specs.Values.{values_in}
 use Rattle.order.specs.Reading.{first_failing, tags_from, out_of_range_of}

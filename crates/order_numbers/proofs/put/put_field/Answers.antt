@@ -1,4 +1,4 @@
-use Rattle.prelude.proofs.Logic.{rules, refl, arith}
+use Rattle.prelude.proofs.Logic.{refl, arith}
 use Rattle.order_numbers.specs.Bytes.{field_bytes}
 use Rattle.order_numbers.proofs.PutLaws.{field_taken}
 use Rattle.order_numbers.proofs.put.put_field.Goals as goal

@@ -1,4 +1,4 @@
-use Rattle.prelude.proofs.Logic.{rules, arith}
+use Rattle.prelude.proofs.Logic.{arith}
 use Rattle.order_numbers.proofs.put.put_float.Goals as goal
 
 pub returns : goal.returns

@@ -1,5 +1,5 @@
 -- Nothing is put if the struct says nothing of Ramadan.
-use Rattle.prelude.proofs.Logic.{rules, ◌≡◌, sym, ◌∙◌, true, false, append-nil, arith, take}
+use Rattle.prelude.proofs.Logic.{◌≡◌, sym, ◌∙◌, true, false, append-nil, arith, take}
 use Rattle.order_numbers.specs.Bytes.{field_bytes, joined}
 use Rattle.order_numbers.specs.Values.{unsaid, ramadan_fields}
 use Rattle.order_numbers.proofs.put.put_ramadan.Goals as goal

@@ -1,5 +1,5 @@
 -- One byte for up to 250 rows, and two bytes for more.
-use Rattle.prelude.proofs.Logic.{rules, arith, le-leb, lt-leb}
+use Rattle.prelude.proofs.Logic.{arith, le-leb, lt-leb}
 use Rattle.order_numbers.specs.Bytes.{up_to}
 use Rattle.order_numbers.specs.Values.{rows_bytes}
 use Rattle.order_numbers.proofs.put.put_rows.Goals as goal

@@ -1,5 +1,5 @@
 -- The three fields follow one another.
-use Rattle.prelude.proofs.Logic.{rules, [], arith}
+use Rattle.prelude.proofs.Logic.{[], arith}
 use Rattle.order_numbers.specs.Values.{start_fields}
 use Rattle.order_numbers.proofs.PutLaws.{laid, rows_long}
 use Rattle.order_numbers.proofs.put.put_start.Goals as goal

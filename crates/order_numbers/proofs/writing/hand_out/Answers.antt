@@ -1,5 +1,5 @@
 -- The result of reading decides first, then the buffer's room.
-use Rattle.prelude.proofs.Logic.{rules, refl, sym, ap, ◌∙◌, [], arith, length, le-leb, lt-leb}
+use Rattle.prelude.proofs.Logic.{sym, ap, ◌∙◌, [], arith, length, le-leb, lt-leb}
 use Rattle.text.proofs.TextLaws.{put_front}
 use Rattle.order_numbers.specs.Writing.{refused_of, call_in}
 use Rattle.order_numbers.proofs.writing.hand_out.Goals as goal
