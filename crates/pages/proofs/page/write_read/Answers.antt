@@ -19,7 +19,6 @@ returns-then-first-count c =
     let a = c.args in
     let none = piece-none a.order a.page a.first (length a.scratch.now / 39)
     (omega (arith, c.rows_on-count.ensures, c.if-first-count.true)) in
-    
     let both = rows_refused _ _ _ _ none c.lacks_row.ensures c.refused.ensures in record { value = both.0; scratch_after = both.1 }
 
 pub overflow_sub-page : goal.overflow_sub-page
@@ -34,16 +33,15 @@ overflow_add-page c = omega (arith, (piece-holds c).within, c.requires.0.rows.1)
 pub write_rows-requires : goal.write_rows-requires
 write_rows-requires c =
     let p = c.requires in
-    let w = piece-holds c.before in
+    let w = piece-holds c in
     (p.0, w.some, w.within, omega (arith, w.fit, p.1))
 
 pub returns : goal.returns
 returns c =
     let a = c.args in
-    let w = piece-holds c.before.before.before.before in
+    let w = piece-holds c in
     let taken = c.rows_that_fit-taken.result in
     let asked = piece_in a.page a.first a.scratch.now a.order in
     let l : taken ≡ length asked = sym (rows-length a.order (25 * (a.page - 1) + a.first) taken) ∙ ap length w.rows in
     let put = c.write_rows.ensures in
-    
     let both = rows_answered _ asked _ _ _ (omega (arith, w.some)) w.rows put.0 put.1 in record { value = both.0; scratch_after = both.1 }

@@ -5,7 +5,7 @@ use Rattle.pages.proofs.report.put_pages.Goals as goal
 
 pub returns : goal.returns
 returns c =
-    let start = c.before.before.before.before.before.before in
+    let start = c in
     let a = start.args in
     let room : 39 * (a.order.rows - 0) ≤ length a.buffer.now = omega (arith, start.requires.0.rows.1, start.requires.1) in 
     record {

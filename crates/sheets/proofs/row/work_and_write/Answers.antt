@@ -10,10 +10,9 @@ pub returns-then-row-order : goal.returns-then-row-order
 returns-then-row-order c =
     let a = c.args in
     let w = c.write_worked.ensures in
-    let since = c.before.before.before.before in
+    let since = c in
     let l = row_there a.order a.row a.buffer.now _ _ since.if-row-order.true
     since.row-date.ensures (ap (started_in _) since.since_midnight-worked.ensures.0) in
-    
     record {
       value = w.0 ∙ l.0;
       buffer_after = w.1 ∙ l.1;
@@ -23,7 +22,6 @@ pub returns : goal.returns
 returns c =
     let a = c.args in
     let l = row_lacking a.order a.row a.buffer.now c.if-row-order.false in
-    
     record {
       value = c.lacks_row.ensures ∙ l.0;
       buffer_after = l.1;

@@ -7,7 +7,6 @@ pub returns-then-buffer-bytes : goal.returns-then-buffer-bytes
 returns-then-buffer-bytes c =
     let a = c.args in
     let l = room-short a.order a.row a.buffer.now (rw c.row_bytes-bytes.ensures at c.if-buffer-bytes.true) in
-    
     record {
       value = c.new.ensures ∙ l.0;
       buffer_after = l.1;
@@ -18,12 +17,11 @@ work_and_write-requires c = rw c.row_bytes-bytes.ensures at c.if-buffer-bytes.fa
 
 pub returns : goal.returns
 returns c =
-    let b = c.before.before.before.before.before in
+    let b = c in
     let a = b.args in
     let w = c.work_and_write.ensures in
     let l =
     room-there a.order a.row a.buffer.now (rw b.row_bytes-bytes.ensures at c.if-buffer-bytes.false) in
-    
     record {
       value = w.0 ∙ l.0;
       buffer_after = w.1 ∙ l.1;

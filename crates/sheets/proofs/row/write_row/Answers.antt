@@ -7,7 +7,6 @@ pub returns-then-buffer-lt-ROW_BYTES : goal.returns-then-buffer-lt-ROW_BYTES
 returns-then-buffer-lt-ROW_BYTES c =
     let a = c.args in
     let l = row-short a.order.now a.buffer.now a.row c.if-buffer-lt-ROW_BYTES.true in
-    
     record {
       value = c.new.ensures ∙ l.0;
       buffer_after = l.1;
@@ -20,7 +19,6 @@ returns-in-Read c =
     ∙ c.in-Read.is in
     let l = row_read a.order.now a.buffer.now a.row
     c.if-buffer-lt-ROW_BYTES.false _ e in
-    
     record {
       value = c.write_read.ensures.value ∙ l.0;
       buffer_after = c.write_read.ensures.buffer_after ∙ l.1;
@@ -30,5 +28,4 @@ pub returns-in-Refused : goal.returns-in-Refused
 returns-in-Refused c =
     let a = c.args in
     let e = sym c.read.ensures ∙ c.in-Refused.is in
-    
     let both = row-refused a.order.now a.buffer.now a.row c.if-buffer-lt-ROW_BYTES.false _ e in record { value = both.0; buffer_after = both.1 }

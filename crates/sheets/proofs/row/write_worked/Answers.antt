@@ -15,7 +15,7 @@ unfolding worked_call_of started_in NearIn
 returns-in-Times c =
     let put = c.put_row in
     let w = c.worked-1.given in
-    let start = c.before.before.before.before.before.before.before.before.before in
+    let start = c in
     let a = start.args in
     let imsak : a.ramadan.imsak < 2 ^ 32 = search rules in
     let year : a.date.year < 2 ^ 32 = search rules in
@@ -25,7 +25,6 @@ returns-in-Times c =
     let p = put_next a.buffer.now [] (row_text a.date (columns_of a.ramadan t)) a.buffer.now _ 0 refl refl
     (put.ensures.buffer_after ∙ ap (put_of a.buffer.now 0) (sym (row-since a.date a.ramadan w.0.0 imsak year near.fajr)))
     (omega (arith, start.requires.0)) in
-    
     record {
       value = c.none.ensures ∙ simp w.1;
       buffer_after = simp w.1 p;

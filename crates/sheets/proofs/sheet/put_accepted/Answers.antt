@@ -21,5 +21,4 @@ returns c =
     let h = c.put_head-head.ensures in
     let r = c.put_rows.ensures in
     let room = room_enough a.order p.0 in
-    
     let both = sheet_made a.town.now a.buffer.now _ _ a.order _ _ (omega (arith, p.1, p.2)) h.0 h.1 r.0 r.1 in record { value = both.0; buffer_after = both.1 }

@@ -5,14 +5,14 @@ use Rattle.sheets.proofs.sheet.put_head.Goals as goal
 
 pub overflow_add-result : goal.overflow_add-result
 overflow_add-result c =
-    let t = c.before.before.before.before.before.before.before.before.before.before in
+    let t = c in
     let h = c.put_header.ensures.value in
     let n = header_short t.args.ramadan in
     record { fits = omega (arith, t.requires.0) }
 
 pub returns : goal.returns
 returns c =
-    let t = c.before.before.before.before.before.before.before.before.before.before in
+    let t = c in
     let a = t.args in
     let h = c.put_header.ensures in
     let n = header_short a.ramadan in

@@ -13,7 +13,7 @@ line-holds : (c : After-put_line-end) → let a =
     let l = c.loop-row in
     Behind a.order a.buffer.now a.at c.put_line-end.new.0 (l.row + 1) (l.end + c.put_line-end.result)
 line-holds c =
-    let t = c.before.before.before.before.before.before.before.before in
+    let t = c in
     let o = t.args.order in
     let l = c.loop-row in
     let put = c.put_line-end in
@@ -24,7 +24,7 @@ line-holds c =
 
 pub loop-row-init : goal.loop-row-init
 loop-row-init c =
-    let t = c.before.before.before.before in
+    let t = c in
     let o = t.args.order in
     let p = t.requires in
     let n = lines_none o t.args.buffer.now t.args.at (omega (arith, p.1)) in
@@ -32,9 +32,9 @@ loop-row-init c =
 
 pub overflow_add-end : goal.overflow_add-end
 overflow_add-end c =
-    let t = c.before.before.before.before.before.before.before.before.before.before in
+    let t = c in
     let f : length t.args.buffer.now < 2 ^ 64 = search rules in
-    omega (arith, (line-holds c.before.before).2)
+    omega (arith, (line-holds c).2)
 
 pub overflow_add-row : goal.overflow_add-row
 overflow_add-row c =
@@ -50,10 +50,9 @@ shape_of-buffer-then-row-order c = c.put_line-end.kept.0 ∙ c.loop-row.invarian
 pub returns-then-row-order : goal.returns-then-row-order
 returns-then-row-order c =
     let l = c.loop-row in
-    let n = line-holds c.before.before.before.before in
-    let t = c.before.before.before.before.before.before.before.before.before.before.before.before in
+    let n = line-holds c in
+    let t = c in
     let e : l.row + 1 ≡ t.args.order.rows = omega (arith, c.if-row-order.true, l.invariant.within) in
-    
     record {
       value = rw e at n.1;
       buffer_after = rw e at n.0;
@@ -64,10 +63,10 @@ loop-row-smaller c = omega (arith, c.loop-row.invariant.within)
 
 pub loop-row-preserved : goal.loop-row-preserved
 loop-row-preserved c =
-    let t = c.before.before.before.before.before.before.before.before.before.before.before.before.before in
+    let t = c in
     let o = t.args.order in
     let l = c.loop-row in
-    let n = line-holds c.before.before.before.before.before in
+    let n = line-holds c in
     record {
       within = c.if-row-order.false;
       state = c.next-suns.ensures ∙ ap (next_row_suns_of o.setting) l.invariant.state ∙ next-state o t.requires.0 l.row

@@ -18,24 +18,22 @@ returns-then-buffer-lt-SHEET_BYTES c =
 
 pub put_accepted-requires : goal.put_accepted-requires
 put_accepted-requires c =
-    let taken = c.before.before in
-    let called = taken.before.before in
+    let taken = c in
+    let called = taken in
     let e = sym called.read-reading.ensures ∙ taken.in-Read.is in
     (read_accepted _ _ e, rw (named called) (read_town _ _ e).size.1, called.if-buffer-lt-SHEET_BYTES.false)
 
 pub returns-in-Read : goal.returns-in-Read
 returns-in-Read c =
-    let taken = c.before.before.before.before.before in
-    let called = taken.before.before in
+    let taken = c in
+    let called = taken in
     let e = sym called.read-reading.ensures ∙ taken.in-Read.is in
-    
     let both = report-read _ _ _ _ called.if-buffer-lt-SHEET_BYTES.false _ _ _ e (simp (named called) at c.put_accepted.ensures) in record { value = both.0; buffer_after = both.1 }
 
 pub returns-in-Refused : goal.returns-in-Refused
 returns-in-Refused c =
-    let taken = c.before.before.before.before.before in
-    let called = taken.before.before in
-    
+    let taken = c in
+    let called = taken in
     let both = report-refused _ _ _ _ called.if-buffer-lt-SHEET_BYTES.false _ _ (lit≤ tt) _
     (sym called.read-reading.ensures ∙ taken.in-Refused.is)
     c.put_refused_order.ensures in record { value = both.0; buffer_after = both.1 }

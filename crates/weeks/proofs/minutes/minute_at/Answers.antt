@@ -10,6 +10,6 @@ returns-then-refused-row c = simp c.if-refused-row.true
 pub returns : goal.returns
 unfolding minute_at
 returns c =
-    let start = c.before.before.before in
+    let start = c in
     let fits : SFits w64 (get_or start.args.minutes.now start.args.row (pos 0)) = search rules in
     simp (c.if-refused-row.false, read w64 _ fits)

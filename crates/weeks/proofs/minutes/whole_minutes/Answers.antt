@@ -12,6 +12,6 @@ overflow_add-result c = search (minutes_fit_lem, rules)
 
 pub returns : goal.returns
 returns c =
-    let s = c.before.before in
+    let s = c in
     let k : read_back w64 c.day_of.result ≡ c.day_of.result = search rules in
     minutes_read s.args.seconds s.ranges.seconds _ _ k c.day_of.ensures c.second_of_day.ensures

@@ -2,7 +2,7 @@
 use Rattle.prelude.proofs.Logic.{◌≡◌, ap, ◌∙◌, ℕ, ◌+◌, ◌-◌, ◌<◌, arith, length, rules}
 use Rattle.days.proofs.RowStates.{first-state, next-state}
 use Rattle.schedule.specs.RowSuns.{next_row_suns_of}
-use Rattle.weeks.specs.{Kept.minuteAt, Report.rowMinute}
+use Rattle.weeks.specs.{Kept.minute_at, Report.row_minute}
 use Rattle.weeks.proofs.MinuteLaws.{Run, row_done}
 use Rattle.weeks.proofs.minutes.work_minutes.Goals as goal
 use Rattle.weeks.proofs.minutes.work_minutes.Goals.{After-store, At-loop-row}
@@ -11,7 +11,7 @@ use Rattle.weeks.proofs.minutes.work_minutes.Goals.{After-store, At-loop-row}
 stored : (c : After-store)
     → let order = c.args.order in
     (k : ℕ) → k < c.loop-row.row + 1
-    → minuteAt c.store.new.1.1.0 c.store.new.1.1.1.0 k ≡ rowMinute order k
+    → minute_at c.store.new.1.1.0 c.store.new.1.1.1.0 k ≡ row_minute order k
 stored c = search row_done
 
 -- the arrays keep their lengths
@@ -24,7 +24,7 @@ few c = omega (arith, c.loop-row.invariant.within, c.requires.0.rows.1)
 
 pub loop-row-init : goal.loop-row-init
 loop-row-init c =
-    let start = c.before.before.before in
+    let start = c in
     record {
       within = start.requires.0.rows.0;
       state = c.new-suns.ensures ∙ first-state start.args.order start.requires.0;
@@ -33,13 +33,13 @@ loop-row-init c =
     }
 
 pub overflow_cast-row : goal.overflow_cast-row
-overflow_cast-row c = omega (arith, few c.before)
+overflow_cast-row c = omega (arith, few c)
 
 pub store-requires : goal.store-requires
 store-requires c = search (few, rules)
 
 pub overflow_add-row : goal.overflow_add-row
-overflow_add-row c = omega (arith, few c.before.before.before.before.before.before.before)
+overflow_add-row c = omega (arith, few c)
 
 pub shape_of-minutes-then-row-order : goal.shape_of-minutes-then-row-order
 shape_of-minutes-then-row-order c = cc
@@ -48,16 +48,16 @@ pub shape_of-refused-then-row-order : goal.shape_of-refused-then-row-order
 shape_of-refused-then-row-order c = cc
 
 pub returns-then-row-order : goal.returns-then-row-order
-returns-then-row-order c k h = stored c.before.before.before.before.before k (omega (arith, c.if-row-order.true))
+returns-then-row-order c k h = stored c k (omega (arith, c.if-row-order.true))
 
 pub loop-row-smaller : goal.loop-row-smaller
 loop-row-smaller c = omega (arith, c.loop-row.invariant.within)
 
 pub loop-row-preserved : goal.loop-row-preserved
 loop-row-preserved c =
-    let Stored-row = c.before.before.before.before.before.before in
+    let Stored-row = c in
     let l = Stored-row.loop-row in
-    let start = Stored-row.before.before.before.before.before.before.before.before in
+    let start = Stored-row in
     let o = start.args.order in
     let next = c.next-suns.ensures ∙ ap (next_row_suns_of o.setting) l.invariant.state in
     record {

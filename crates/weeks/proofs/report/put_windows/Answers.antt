@@ -32,7 +32,6 @@ pub returns : goal.returns
 returns c =
     let l = c.loop-first in
     let all : l.first ≡ c.args.rows - 6 = omega (arith, l.invariant.within, c.loop-first-test.false) in
-    
     record {
       value = rw all at l.invariant.place;
       buffer_after = rw all at l.invariant.text;
