@@ -32,7 +32,7 @@ returns-then-not-in_range c =
     let t = c.loop-passed-test.true in
     c.new.ensures
     ∙ sym (fails 5 (passing l) (tags_from last_tag 1) l.loop-passed.passed (omega (arith, all_tags)) _
-          (tags_from_lem last_tag 1 l.loop-passed.passed t) (sym c.in_range.ensures ∙ c.if-not-in_range.true))
+    (tags_from_lem last_tag 1 l.loop-passed.passed t) (sym c.in_range.ensures ∙ c.if-not-in_range.true))
     ∙ first l
 
 pub loop-passed-preserved : goal.loop-passed-preserved
@@ -43,7 +43,7 @@ loop-passed-preserved c =
       omega arith,
       sym (on 5 (passing l) (tags_from last_tag 1) l.loop-passed.passed (omega (arith, all_tags)) _
           (tags_from_lem last_tag 1 l.loop-passed.passed t) (sym c.in_range.ensures ∙ c.if-not-in_range.false))
-      ∙ l.loop-passed.invariant.1,
+          ∙ l.loop-passed.invariant.1,
     )
 
 pub returns : goal.returns

@@ -8,7 +8,7 @@ unfolding field_bytes
 returns c =
     let a = c.args in
     let long = c.requires.0 in
-    let room = c.requires.1 in 
+    let room = c.requires.1 in
     record {
       value = refl;
       line_after = field_taken a.line.now c.put.new.buffer c.put-2.new.buffer a.at a.tag _ a.value.now refl refl

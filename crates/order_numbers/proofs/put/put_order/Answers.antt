@@ -6,7 +6,7 @@ use Rattle.order_numbers.proofs.put.put_order.Goals as goal
 pub returns : goal.returns
 unfolding encode
 returns c =
-    let a = c.args in 
+    let a = c.args in
     record {
       upper_bound = c.put_ramadan.ensures.upper_bound;
       line_after = simp (

@@ -8,7 +8,7 @@ pub returns : goal.returns
 returns c =
     let a = c.args in
     let few = rows_long a.rows in
-    let taken = laid [] (start_fields a.date a.rows a.town.now) in 
+    let taken = laid [] (start_fields a.date a.rows a.town.now) in
     record {
       upper_bound = omega arith;
       line_after = simp (c.put_rows.ensures.line_after, c.put_field-end.ensures.line_after, c.put_town-at.ensures.line_after, c.date_bytes-bytes.ensures) taken;

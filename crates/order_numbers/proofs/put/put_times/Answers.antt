@@ -6,7 +6,7 @@ use Rattle.order_numbers.proofs.put.put_times.Goals as goal
 
 pub returns : goal.returns
 returns c =
-    let a = c.args in 
+    let a = c.args in
     record {
       value = omega arith;
       line_after = simp (

@@ -6,7 +6,6 @@ pub returns-then-town-le-TOWN_CUT : goal.returns-then-town-le-TOWN_CUT
 returns-then-town-le-TOWN_CUT c =
     let few = c.if-town-le-TOWN_CUT.true in
     let town = c.args.town.now in
-    
     record {
       upper_bound = omega (arith, c.put_field.ensures.value);
       line_after = rw (take_all 41 town few) c.put_field.ensures.line_after;

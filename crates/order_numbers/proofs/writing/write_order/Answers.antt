@@ -15,7 +15,6 @@ hand_out-requires c =
 
 pub returns : goal.returns
 returns c =
-    
     record {
       value = simp (← c.put_order-length.ensures.line_after) c.hand_out.ensures.value;
       buffer_after = simp (← c.put_order-length.ensures.line_after) c.hand_out.ensures.buffer_after;
