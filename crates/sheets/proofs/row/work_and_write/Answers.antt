@@ -14,8 +14,8 @@ returns-then-row-order c =
     let l = row_there a.order a.row a.buffer.now _ _ since.if-row-order.true
     since.row-date.ensures (ap (started_in _) since.since_midnight-worked.ensures.0) in
     record {
-      value = w.0 ∙ l.0;
-      buffer_after = w.1 ∙ l.1;
+      value = w.value ∙ l.0;
+      buffer_after = w.buffer_after ∙ l.1;
     }
 
 pub returns : goal.returns

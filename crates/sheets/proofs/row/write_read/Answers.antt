@@ -23,6 +23,6 @@ returns c =
     let l =
     room-there a.order a.row a.buffer.now (rw b.row_bytes-bytes.ensures at c.if-buffer-bytes.false) in
     record {
-      value = w.0 ∙ l.0;
-      buffer_after = w.1 ∙ l.1;
+      value = w.value ∙ l.0;
+      buffer_after = w.buffer_after ∙ l.1;
     }

@@ -14,20 +14,20 @@ pub returns-in-Times : goal.returns-in-Times
 unfolding worked_call_of started_in NearIn
 returns-in-Times c =
     let put = c.put_row in
-    let w = c.worked-1.given in
+    let w = c.in-Times in
     let start = c in
     let a = start.args in
     let imsak : a.ramadan.imsak < 2 ^ 32 = search rules in
     let year : a.date.year < 2 ^ 32 = search rules in
-    let near = subst NearIn w.1 start.requires.1 in
-    let t = started_of (start_of a.date) w.0.0 in
+    let near = subst NearIn w.is start.requires.1 in
+    let t = started_of (start_of a.date) w.times in
     let n = columns_length a.ramadan a.date t in
     let p = put_next a.buffer.now [] (row_text a.date (columns_of a.ramadan t)) a.buffer.now _ 0 refl refl
-    (put.ensures.buffer_after ∙ ap (put_of a.buffer.now 0) (sym (row-since a.date a.ramadan w.0.0 imsak year near.fajr)))
+    (put.ensures.buffer_after ∙ ap (put_of a.buffer.now 0) (sym (row-since a.date a.ramadan w.times imsak year near.fajr)))
     (omega (arith, start.requires.0)) in
     record {
-      value = c.none.ensures ∙ simp w.1;
-      buffer_after = simp w.1 p;
+      value = c.none.ensures ∙ simp w.is;
+      buffer_after = simp w.is p;
     }
 
 pub returns-in-Refused : goal.returns-in-Refused

@@ -11,7 +11,7 @@ put_rows-requires c =
     let n = h.ensures.value in
     let t = head_length a.order.ramadan a.town.now in
     let room = room_enough a.order p.0 in
-    let k : length h.new.0 ≡ length a.buffer.now = h.kept.0 in
+    let k : length h.new.buffer ≡ length a.buffer.now = h.auto.buffer in
     (p.0, omega (arith, p.1, p.2))
 
 pub returns : goal.returns
@@ -21,4 +21,5 @@ returns c =
     let h = c.put_head-head.ensures in
     let r = c.put_rows.ensures in
     let room = room_enough a.order p.0 in
-    let both = sheet_made a.town.now a.buffer.now _ _ a.order _ _ (omega (arith, p.1, p.2)) h.0 h.1 r.0 r.1 in record { value = both.0; buffer_after = both.1 }
+    let both = sheet_made a.town.now a.buffer.now _ _ a.order _ _ (omega (arith, p.1, p.2)) h.value h.buffer_after r.value r.buffer_after
+    in record { value = both.0; buffer_after = both.1 }

@@ -18,7 +18,7 @@ returns c =
     let n = header_short a.ramadan in
     let l = head_length a.ramadan a.town.now in 
     record {
-      value = omega (arith, h.0);
+      value = omega (arith, h.value);
       buffer_after = head_made a.ramadan a.town.now a.buffer.now _ _ (omega (arith, t.requires.0, t.requires.1))
-          c.put.ensures h.1;
+          c.put.ensures h.buffer_after;
     }

@@ -2,8 +2,14 @@ use Rattle.sheets.specs.Rows.{header_text}
 use Rattle.prelude.proofs.Logic.{rules}
 use Rattle.sheets.proofs.sheet.put_header.Goals as goal
 
-pub put-requires-2 : goal.put-requires-2
+pub returns-then-ramadan : goal.returns-then-ramadan
 unfolding header_text
-put-requires-2 c =
+returns-then-ramadan c =
     let e = c.if-ramadan.true in
-    (simp e, simp e c.put.ensures)
+    record { value = simp e; buffer_after = simp e c.put.ensures }
+
+pub returns : goal.returns
+unfolding header_text
+returns c =
+    let e = c.if-ramadan.false in
+    record { value = simp e; buffer_after = simp e c.put-2.ensures }

@@ -5,22 +5,6 @@ use Rattle.schedule.specs.RowSuns.{next_row_suns_of}
 use Rattle.sheets.proofs.Lengths.{lines_none}
 use Rattle.sheets.proofs.Rolled.{Run, Behind, since_line, run-line}
 use Rattle.sheets.proofs.sheet.put_rows.Goals as goal
-use Rattle.sheets.proofs.sheet.put_rows.Goals.{After-put_line-end}
-
--- after the row whose line is put
-line-holds : (c : After-put_line-end) → let a =
-    c.args in
-    let l = c.loop-row in
-    Behind a.order a.buffer.now a.at c.put_line-end.new.0 (l.row + 1) (l.end + c.put_line-end.result)
-line-holds c =
-    let t = c in
-    let o = t.args.order in
-    let l = c.loop-row in
-    let put = c.put_line-end in
-    let e = c.since_midnight-worked.ensures in
-    run-line o t.requires.0 t.args.buffer.now t.args.at t.requires.1 l.buffer l.suns l.row l.end l.invariant _
-    put.new.0 put.result
-    (since_line o t.requires.0 l.suns l.row l.invariant.within l.invariant.state _ e.0 e.1) put.ensures.value put.ensures.buffer_after
 
 pub loop-row-init : goal.loop-row-init
 loop-row-init c =
@@ -34,7 +18,14 @@ pub overflow_add-end : goal.overflow_add-end
 overflow_add-end c =
     let t = c in
     let f : length t.args.buffer.now < 2 ^ 64 = search rules in
-    omega (arith, (line-holds c).2)
+    let l = c.loop-row in
+    let p = c.requires in
+    let put = c.put_line-end in
+    let e = c.since_midnight-worked.ensures in
+    let n = run-line c.args.order p.0 c.args.buffer.now c.args.at p.1 l.buffer l.suns l.row l.end l.invariant _
+    put.new.buffer put.result
+    (since_line c.args.order p.0 l.suns l.row l.invariant.within l.invariant.state _ e.0 e.1) put.ensures.value put.ensures.buffer_after in
+    omega (arith, n.2)
 
 pub overflow_add-row : goal.overflow_add-row
 overflow_add-row c =
@@ -45,12 +36,17 @@ overflow_add-row c =
     )
 
 pub shape_of-buffer-then-row-order : goal.shape_of-buffer-then-row-order
-shape_of-buffer-then-row-order c = c.put_line-end.kept.0 ∙ c.loop-row.invariant.same
+shape_of-buffer-then-row-order c = c.put_line-end.auto.buffer ∙ c.loop-row.invariant.same
 
 pub returns-then-row-order : goal.returns-then-row-order
 returns-then-row-order c =
     let l = c.loop-row in
-    let n = line-holds c in
+    let p = c.requires in
+    let put = c.put_line-end in
+    let e = c.since_midnight-worked.ensures in
+    let n = run-line c.args.order p.0 c.args.buffer.now c.args.at p.1 l.buffer l.suns l.row l.end l.invariant _
+    put.new.buffer put.result
+    (since_line c.args.order p.0 l.suns l.row l.invariant.within l.invariant.state _ e.0 e.1) put.ensures.value put.ensures.buffer_after in
     let t = c in
     let e : l.row + 1 ≡ t.args.order.rows = omega (arith, c.if-row-order.true, l.invariant.within) in
     record {
@@ -66,12 +62,17 @@ loop-row-preserved c =
     let t = c in
     let o = t.args.order in
     let l = c.loop-row in
-    let n = line-holds c in
+    let p = c.requires in
+    let put = c.put_line-end in
+    let e = c.since_midnight-worked.ensures in
+    let n = run-line c.args.order p.0 c.args.buffer.now c.args.at p.1 l.buffer l.suns l.row l.end l.invariant _
+    put.new.buffer put.result
+    (since_line c.args.order p.0 l.suns l.row l.invariant.within l.invariant.state _ e.0 e.1) put.ensures.value put.ensures.buffer_after in
     record {
       within = c.if-row-order.false;
       state = c.next-suns.ensures ∙ ap (next_row_suns_of o.setting) l.invariant.state ∙ next-state o t.requires.0 l.row
           l.invariant.within;
       text = n.0;
       place = n.1;
-      same = c.put_line-end.kept.0 ∙ l.invariant.same;
+      same = c.put_line-end.auto.buffer ∙ l.invariant.same;
     }

@@ -6,34 +6,33 @@ use Rattle.order.proofs.ReadingLaws.{read_town}
 use Rattle.text.proofs.PrintedLaws.{printed-short}
 use Rattle.reports.proofs.ReportsLaws.{report-read, report-refused}
 use Rattle.sheets.proofs.sheet.write_sheet.Goals as goal
-use Rattle.sheets.proofs.sheet.write_sheet.Goals.{After-town-name}
-
-named : (t : After-town-name) → t.town-name.result.now ≡ town_of t.args.order.now
-unfolding town_of
-named t = t.town-name.ensures ∙ ap (town_in t.args.order.now) t.read-reading.ensures
 
 pub returns-then-buffer-lt-SHEET_BYTES : goal.returns-then-buffer-lt-SHEET_BYTES
 returns-then-buffer-lt-SHEET_BYTES c =
     let both = printed-short _ _ _ c.if-buffer-lt-SHEET_BYTES.true in record { value = both.0; buffer_after = both.1 }
 
 pub put_accepted-requires : goal.put_accepted-requires
+unfolding town_of
 put_accepted-requires c =
-    let taken = c in
-    let called = taken in
-    let e = sym called.read-reading.ensures ∙ taken.in-Read.is in
-    (read_accepted _ _ e, rw (named called) (read_town _ _ e).size.1, called.if-buffer-lt-SHEET_BYTES.false)
+    let e = sym c.read-reading.ensures ∙ c.in-Read.is in
+    let named : c.town-name.result.now ≡ town_of c.args.order.now =
+    c.town-name.ensures ∙ ap (town_in c.args.order.now) c.read-reading.ensures in
+    (read_accepted _ _ e, rw named (read_town _ _ e).size.1, c.if-buffer-lt-SHEET_BYTES.false)
 
 pub returns-in-Read : goal.returns-in-Read
+unfolding town_of
 returns-in-Read c =
-    let taken = c in
-    let called = taken in
-    let e = sym called.read-reading.ensures ∙ taken.in-Read.is in
-    let both = report-read _ _ _ _ called.if-buffer-lt-SHEET_BYTES.false _ _ _ e (simp (named called) at c.put_accepted.ensures) in record { value = both.0; buffer_after = both.1 }
+    let e = sym c.read-reading.ensures ∙ c.in-Read.is in
+    let named : c.town-name.result.now ≡ town_of c.args.order.now =
+    c.town-name.ensures ∙ ap (town_in c.args.order.now) c.read-reading.ensures in
+    let put = c.put_accepted.ensures in
+    let both = report-read _ _ _ _ c.if-buffer-lt-SHEET_BYTES.false _ _ _ e
+    (simp named at put.value, simp named at put.buffer_after) in
+    record { value = both.0; buffer_after = both.1 }
 
 pub returns-in-Refused : goal.returns-in-Refused
 returns-in-Refused c =
-    let taken = c in
-    let called = taken in
-    let both = report-refused _ _ _ _ called.if-buffer-lt-SHEET_BYTES.false _ _ (lit≤ tt) _
-    (sym called.read-reading.ensures ∙ taken.in-Refused.is)
-    c.put_refused_order.ensures in record { value = both.0; buffer_after = both.1 }
+    let put = c.put_refused_order.ensures in
+    let both = report-refused _ _ _ _ c.if-buffer-lt-SHEET_BYTES.false _ _ (lit≤ tt) _
+    (sym c.read-reading.ensures ∙ c.in-Refused.is)
+    (put.value, put.buffer_after) in record { value = both.0; buffer_after = both.1 }
