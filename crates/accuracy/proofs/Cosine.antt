@@ -2,7 +2,7 @@
 -- about x / 4. The rounding errors are at most 7,297 units, and below 0.3 at most 3,713. Without rounding the result is 1 + z p, and p is
 -- within 2 ^ 10 units of nine terms of the series: at most 577 units more. Together this is less than 2 ^ 13 units, 2 ^ -51. Assumes
 -- nothing.
-use Rattle.prelude.proofs.Logic.{◌≡◌, refl, sym, ◌∙◌, Bool, true, false, cond, List, [], ◌∷◌, ℕ, ◌+◌, ◌*◌, ◌^◌, ◌≤◌, ◌<◌, le_trans, mul-pos}
+use Rattle.prelude.proofs.Logic.{◌≡◌, refl, sym, ◌∙◌, Bool, true, false, cond, List, [], ◌∷◌, ℕ, ◌+◌, ◌*◌, ◌^◌, ◌<◌, le_trans, mul-pos}
 use Rattle.prelude.proofs.Logic.{one-mul, one-le-pow, pow-zero, pow-succ', arith, T, ltb, lit<, lit≤, ℤ, le-leb}
 use Rattle.float64.proofs.Floats.{Float, fin, up, down, size, of_bits, neg, down_pos, high_of, Within}
 use Rattle.fdlibm_trig.specs.KSin.{half}
@@ -17,10 +17,10 @@ use Rattle.accuracy.proofs.Fractions.{written, sum, flip}
 use Rattle.accuracy.proofs.Rounding.{signed, value, NearFraction}
 use Rattle.accuracy.proofs.Expressions.{Expr, var, const, ◌⊖◌, ◌⊗◌, run, exact, bound, error, fine}
 use Rattle.accuracy.proofs.Series.{from, terms, fall_is, side, side-is}
-use Rattle.accuracy.proofs.Polynomials.{per, horner, rows, near}
+use Rattle.accuracy.proofs.Polynomials.{per, horner}
 use Rattle.accuracy.proofs.Words.{high_le, high-tiny, quarter_within}
 use Rattle.accuracy.proofs.Integers.{is_sum, within}
-use Rattle.accuracy.proofs.Kernels.{for_moderate, Inputs, Input, x, q, sizes, z, Kernel, ten, ten_off, floats, of, run-near, ten-near}
+use Rattle.accuracy.proofs.Kernels.{for_moderate, Inputs, Input, x, q, z, Kernel, ten, ten_off, floats, of, run-near, ten-near}
 use Rattle.accuracy.proofs.Kernels.{ten-tiny}
 
 -- ---- k_cos.c's two formulas: 1 - (z / 2 - r), where r is z z (C1 + z ..) - x 0; and the same with q subtracted from both 1 and z / 2

@@ -1,7 +1,7 @@
 -- The bound of the sine, in units of 2 ^ -64. k_sin.c computes x + z x (S1 + z (S2 + ..)) with z = x x. The rounding errors are at most
 -- 1,493 units. Without rounding the result is x (1 + z p), and p is within 2 ^ 13 units of nine terms of the series: at most 3,457 units
 -- more. Together this is less than 2 ^ 13 units, 2 ^ -51. Assumes nothing.
-use Rattle.prelude.proofs.Logic.{◌≡◌, refl, ◌∙◌, Bool, true, false, not, cond, List, [], ◌∷◌, ℕ, ◌+◌, ◌*◌, ◌^◌, ◌≤◌, ◌<◌, le_trans}
+use Rattle.prelude.proofs.Logic.{◌≡◌, refl, ◌∙◌, Bool, true, false, not, cond, List, [], ◌∷◌, ℕ, ◌+◌, ◌*◌, ◌^◌, ◌<◌, le_trans}
 use Rattle.prelude.proofs.Logic.{add_comm, mul-pos, one-le-pow, pow-zero, pow-succ', arith, T, ltb, lit<, lit≤, ℤ, pos, le-leb}
 use Rattle.float64.proofs.Floats.{Float, fin, up, down, size, of_bits, down_pos, high_of, Within}
 use Rattle.fdlibm_trig.specs.KSin.{S1, S2, S3, S4, S5, S6, kernel_sin_of}

@@ -2,7 +2,6 @@
 use Rattle.prelude.proofs.Logic.{◌≡◌, refl, sym, ap, ◌∙◌, Bool, true, false, cond, false≢true, ℕ, zero, suc, ◌+◌, ◌*◌, ◌/◌, ◌%◌, ◌≤◌}
 use Rattle.prelude.proofs.Logic.{◌<◌, div-mul-le_self, lt-div-mul-add, lt_of_mul-lt-mul_right, arith, le-leb, cases}
 use Rattle.float64.proofs.Floats.{Float, nan, inf, fin, up, down, down_pos, is_negative_of}
-use Rattle.refusals.specs.Refusals.{refusal}
 use Rattle.map_form.specs.declared.MapForm.{MapForm}
 use Rattle.map_form.specs.Hundredths.{in_degree, signed, size_of, at_most, form_fits}
 use Rattle.map_form.specs.Written.{parts_of, form_of, nearest_count, written_of, nearest_to, hundredths_of}

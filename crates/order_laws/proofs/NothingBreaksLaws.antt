@@ -90,6 +90,7 @@ module _ (h : RowHours) (date : Date) (season : Season) (p : Parameters) (r : Re
   by-lacking FirstLacking.here = refl
   by-lacking (FirstLacking.later FirstLacking.here) = refl
   by-lacking (FirstLacking.later (FirstLacking.later FirstLacking.here)) = refl
+  by-lacking (FirstLacking.later (FirstLacking.later (FirstLacking.later x))) = elim x [ ]
 
 module _ (o : Order) (date : Date) (r : Refusal) where
   abbrev numbers : RowNumbers

@@ -7,7 +7,7 @@ use Rattle.order.specs.Reading.{town_of}
 use Rattle.order_numbers.specs.declared.numbers.OrderNumbers.{OrderNumbers}
 use Rattle.order_numbers.specs.Numbers.{order_numbers_of}
 use Rattle.order_numbers.specs.Values.{encode}
-use Rattle.order_numbers.specs.Writing.{OrderCall, written_of, order_call_of}
+use Rattle.order_numbers.specs.Writing.{written_of, order_call_of}
 
 -- each float of the struct is an f64, as every float of a program is
 pub record Floats (n : OrderNumbers) : Type 0 where

@@ -1,4 +1,4 @@
-use Rattle.prelude.proofs.Logic.{refl, rules}
+use Rattle.prelude.proofs.Logic.{refl}
 use Rattle.calendar.specs.Days.{days_before_year_of}
 use Rattle.calendar.proofs.counts.days_before_year.Goals as goal
 

@@ -1,4 +1,4 @@
-use Rattle.prelude.proofs.Logic.{refl, rules}
+use Rattle.prelude.proofs.Logic.{refl}
 use Rattle.calendar.proofs.YearSteps.{year_above, guess-right, guess-over}
 use Rattle.calendar.proofs.counts.year_of.Goals as goal
 

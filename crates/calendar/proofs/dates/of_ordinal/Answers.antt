@@ -1,4 +1,4 @@
-use Rattle.prelude.proofs.Logic.{sym, ap, subst, ◌∙◌, ℕ, ◌≤◌, rules}
+use Rattle.prelude.proofs.Logic.{sym, ap, subst, ◌∙◌, ℕ, ◌≤◌}
 use Rattle.calendar.proofs.MonthTables.{month_after}
 use Rattle.calendar.specs.Days.{days_before_of, of_ordinal_of}
 use Rattle.calendar.proofs.dates.of_ordinal.Goals as goal

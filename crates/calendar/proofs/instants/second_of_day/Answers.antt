@@ -1,5 +1,5 @@
 -- Before 1970 the remainder counts back from the day's last second, so it is subtracted from 86,399.
-use Rattle.prelude.proofs.Logic.{arith, rules, w64}
+use Rattle.prelude.proofs.Logic.{arith, w64}
 use Rattle.integers.proofs.Integers.{read}
 use Rattle.calendar.proofs.Remainders as remainders
 use Rattle.calendar.proofs.instants.second_of_day.Goals as goal

@@ -1,4 +1,4 @@
-use Rattle.prelude.proofs.Logic.{◌≡◌, sym, arith, rules}
+use Rattle.prelude.proofs.Logic.{◌≡◌, sym, arith}
 use Rattle.calendar.specs.Days.{days_before_of}
 use Rattle.calendar.proofs.MonthTables.{before_none, before_past}
 use Rattle.calendar.proofs.months.days_before.Goals as goal

@@ -1,4 +1,4 @@
-use Rattle.prelude.proofs.Logic.{◌≡◌, sym, arith, rules}
+use Rattle.prelude.proofs.Logic.{◌≡◌, sym, arith}
 use Rattle.calendar.proofs.MonthTables.{before_next, length_past, length_december}
 use Rattle.calendar.proofs.months.month_days.Goals as goal
 

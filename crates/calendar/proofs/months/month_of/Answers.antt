@@ -13,7 +13,7 @@ pub returns-else-guess-lt12 : goal.returns-else-guess-lt12
 returns-else-guess-lt12 c =
     rw (← month_searched c.args.leap c.args.ordinal c.requires.0 c.requires.1)
     (elim c.else-guess-lt12.branch [
-      else-guess-lt12-via-then-guess-lt12+else-days_before-ordinal w ↦
-        simp (lt-ltb _ _ w.if-guess-lt12.true, sym w.days_before.ensures, le-ltb _ _ w.if-days_before-ordinal.false)
-    | else-guess-lt12-via-else-guess-lt12 w ↦ simp (le-ltb _ _ w.if-guess-lt12.false)
+      | else-guess-lt12-via-then-guess-lt12+else-days_before-ordinal w ↦
+          simp (lt-ltb _ _ w.if-guess-lt12.true, sym w.days_before.ensures, le-ltb _ _ w.if-days_before-ordinal.false)
+      | else-guess-lt12-via-else-guess-lt12 w ↦ simp (le-ltb _ _ w.if-guess-lt12.false)
     ])

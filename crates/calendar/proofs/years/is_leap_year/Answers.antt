@@ -18,6 +18,6 @@ unfolding leap_of
 returns c =
     let e = c.if-year-ne0.false in
     elim c.else-year-eq0.branch [
-      else-year-eq0-via-then-year-eq0+else-year-ne0-2 w ↦ simp (eq-eqb _ _ e, eq-eqb _ _ w.if-year-eq0.true, eq-eqb _ _ w.if-year-ne0-2.false)
-    | else-year-eq0-via-else-year-eq0 w ↦ simp (eq-eqb _ _ e, ne_eqb _ _ w.if-year-eq0.false)
+      | else-year-eq0-via-then-year-eq0+else-year-ne0-2 w ↦ simp (eq-eqb _ _ e, eq-eqb _ _ w.if-year-eq0.true, eq-eqb _ _ w.if-year-ne0-2.false)
+      | else-year-eq0-via-else-year-eq0 w ↦ simp (eq-eqb _ _ e, ne_eqb _ _ w.if-year-eq0.false)
     ]

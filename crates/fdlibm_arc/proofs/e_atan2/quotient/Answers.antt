@@ -16,5 +16,7 @@ unfolding quotient_of
 returns-else-xs c =
     let e1 = c.atan.ensures in
     let e2 = c.abs.ensures in let n = lt-leb _ _ c.if-ix-iy.false in
-    elim c.else-xs.branch [ else-xs-via-then-xs+else-iy-ix w ↦ simp (e1, e2, n, w.if-xs.true, le-ltb _ _ w.if-iy-ix.false)
-                          | else-xs-via-else-xs w ↦ simp (e1, e2, n, w.if-xs.false) ]
+    elim c.else-xs.branch [
+      | else-xs-via-then-xs+else-iy-ix w ↦ simp (e1, e2, n, w.if-xs.true, le-ltb _ _ w.if-iy-ix.false)
+      | else-xs-via-else-xs w ↦ simp (e1, e2, n, w.if-xs.false)
+    ]

@@ -1,5 +1,5 @@
 -- If the tests pass, the residue is exact, and its size tells whether s or a neighbour is the nearest.
-use Rattle.prelude.proofs.Logic.{arith, rules, leb-true}
+use Rattle.prelude.proofs.Logic.{arith, leb-true}
 use Rattle.fdlibm_root.proofs.Certificate.{up_fits, down_fits, chosen}
 use Rattle.fdlibm_root.proofs.certify.corrected.Goals as goal
 

@@ -1,5 +1,5 @@
 -- No pattern here is a NaN's. The float whose pattern is read passed the test `r == r`, so it is no NaN.
-use Rattle.prelude.proofs.Logic.{arith, rules}
+use Rattle.prelude.proofs.Logic.{arith}
 use Rattle.fdlibm_root.proofs.NoNan.{no_nan_bits, self_equal}
 use Rattle.fdlibm_root.proofs.certify.estimate.Goals as goal
 

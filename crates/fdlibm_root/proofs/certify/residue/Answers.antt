@@ -1,5 +1,5 @@
 -- Every product fits, and the difference is the one that the comment of `residue` derives.
-use Rattle.prelude.proofs.Logic.{arith, rules}
+use Rattle.prelude.proofs.Logic.{arith}
 use Rattle.fdlibm_root.proofs.Certificate.{halves, residue-is}
 use Rattle.fdlibm_root.proofs.certify.residue.Goals as goal
 

@@ -1,5 +1,5 @@
 -- The root's last digit rounds it.
-use Rattle.prelude.proofs.Logic.{arith, rules}
+use Rattle.prelude.proofs.Logic.{arith}
 use Rattle.fdlibm_root.proofs.Squares.{rounded}
 use Rattle.fdlibm_root.proofs.digits.by_digits.Goals as goal
 

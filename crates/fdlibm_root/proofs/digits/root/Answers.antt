@@ -1,6 +1,6 @@
 -- The loop keeps `Kept`. After the 54th turn it says that q is the root.
 use Rattle.prelude.proofs.Logic.{refl, arith, lit<, lit≤}
-use Rattle.fdlibm_root.proofs.Squares.{Kept, next_one, next-none, last}
+use Rattle.fdlibm_root.proofs.Squares.{next_one, next-none, last}
 use Rattle.fdlibm_root.proofs.digits.root.Goals as goal
 use Rattle.fdlibm_root.proofs.digits.root.Goals.{then-q-p, else-q-p}
 
@@ -11,8 +11,10 @@ loop-i-init c =
 pub loop-i-preserved : goal.loop-i-preserved
 loop-i-preserved c =
     let m = c.args.m in let l = c.loop-i in let t = c.loop-i-test.true in
-    elim c.if-q-p.branch [ then-q-p w ↦ rw (w.left-is, w.q-is) (next_one m l.q l.left l.rest l.i _ l.invariant t refl w.if-q-p.true)
-                         | else-q-p w ↦ rw (w.left-is, w.q-is) (next-none m l.q l.left l.rest l.i _ l.invariant t refl w.if-q-p.false) ]
+    elim c.if-q-p.branch [
+      | then-q-p w ↦ rw (w.left-is, w.q-is) (next_one m l.q l.left l.rest l.i _ l.invariant t refl w.if-q-p.true)
+      | else-q-p w ↦ rw (w.left-is, w.q-is) (next-none m l.q l.left l.rest l.i _ l.invariant t refl w.if-q-p.false)
+    ]
 
 pub returns : goal.returns
 returns c =

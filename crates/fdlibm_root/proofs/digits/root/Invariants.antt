@@ -1,5 +1,5 @@
-use Rattle.prelude.proofs.Logic.{refl, ⊎_elim, ◌-◌, arith, lit<, lit≤, rules}
-use Rattle.fdlibm_root.proofs.Squares.{Kept, next_one, next-none, last}
+use Rattle.prelude.proofs.Logic.{◌-◌}
+use Rattle.fdlibm_root.proofs.Squares.{Kept}
 use Rattle.fdlibm_root.proofs.digits.root.Given as goal
 
 abbrev pub invariant-loop-i : goal.invariant-loop-i

@@ -1,5 +1,5 @@
 -- Either the certificate or the digit loop gives the nearest whole number.
-use Rattle.prelude.proofs.Logic.{arith, rules}
+use Rattle.prelude.proofs.Logic.{arith}
 use Rattle.fdlibm_root.proofs.Scaled.{doubled}
 use Rattle.fdlibm_root.proofs.e_sqrt.nearest.Goals as goal
 

@@ -1,5 +1,5 @@
 -- Half the exponent and the nearest root make the pattern of the rounded root.
-use Rattle.prelude.proofs.Logic.{sym, arith, rules}
+use Rattle.prelude.proofs.Logic.{sym, arith}
 use Rattle.fdlibm_root.proofs.Scaled.{scaled_root, scaled_fits}
 use Rattle.fdlibm_root.proofs.e_sqrt.root_pattern.Goals as goal
 

@@ -1,5 +1,5 @@
 -- Each branch returns the root by the definition's clause for its floats.
-use Rattle.prelude.proofs.Logic.{◌∙◌, sym, rules}
+use Rattle.prelude.proofs.Logic.{◌∙◌, sym}
 use Rattle.prelude.proofs.Ieee.{of_bits, div}
 use Rattle.fdlibm_root.proofs.NoNan.{no_nan, no_nan_bits}
 use Rattle.fdlibm_root.proofs.Patterns.{not-zero, subnormal-root, normal-root, infinite-root}

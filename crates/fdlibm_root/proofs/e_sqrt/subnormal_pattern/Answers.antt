@@ -1,7 +1,7 @@
 -- The significand doubles up to its 53rd digit, and the number of places that it was moved counts down the exponent.
-use Rattle.prelude.proofs.Logic.{◌∙◌, ap, ◌-◌, arith, lit≤, rules}
+use Rattle.prelude.proofs.Logic.{◌∙◌, ap, arith, lit≤}
 use Rattle.fdlibm_root.specs.Root.{rounded_root}
-use Rattle.fdlibm_root.proofs.Moved.{Shifted53, move, moved_same}
+use Rattle.fdlibm_root.proofs.Moved.{move, moved_same}
 use Rattle.fdlibm_root.proofs.e_sqrt.subnormal_pattern.Goals as goal
 
 pub loop-significand-init : goal.loop-significand-init

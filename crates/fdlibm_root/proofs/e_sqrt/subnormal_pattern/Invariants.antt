@@ -1,6 +1,5 @@
-use Rattle.prelude.proofs.Logic.{◌∙◌, ap, ◌-◌, arith, lit≤, rules}
-use Rattle.fdlibm_root.specs.Root.{rounded_root}
-use Rattle.fdlibm_root.proofs.Moved.{Shifted53, move, moved_same}
+use Rattle.prelude.proofs.Logic.{◌-◌}
+use Rattle.fdlibm_root.proofs.Moved.{Shifted53}
 use Rattle.fdlibm_root.proofs.e_sqrt.subnormal_pattern.Given as goal
 
 abbrev pub invariant-loop-significand : goal.invariant-loop-significand

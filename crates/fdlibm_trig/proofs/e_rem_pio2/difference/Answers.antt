@@ -1,4 +1,4 @@
-use Rattle.prelude.proofs.Logic.{sym, rules, lt-ltb, le-ltb, eq-eqb, ne_eqb}
+use Rattle.prelude.proofs.Logic.{sym, lt-ltb, le-ltb, eq-eqb, ne_eqb}
 use Rattle.fdlibm_trig.specs.RemPio2.{difference_of}
 use Rattle.fdlibm_trig.proofs.e_rem_pio2.difference.Goals as goal
 

@@ -1,5 +1,5 @@
 -- The high word of the product is the table's entry, computed for each n from 1 to 32.
-use Rattle.prelude.proofs.Logic.{◌≡◌, sym, ◌∙◌, Bool, ℕ, zero, suc, ◌≤◌, ◌<◌, ◌-◌, arith, T, eqb, eqb→eq, pos, rules, List·getD-eq-default}
+use Rattle.prelude.proofs.Logic.{◌≡◌, sym, ◌∙◌, Bool, ℕ, zero, suc, ◌≤◌, ◌<◌, ◌-◌, arith, T, eqb, eqb→eq, pos, List·getD-eq-default}
 use Rattle.prelude.proofs.Computed.{below, at}
 use Rattle.float64.proofs.Floats.{binary64, round, of_int, of_bits, mul, to_bits, high_of, ◌*ᶠ◌}
 use Rattle.fdlibm_trig.specs.RemPio2.{npio2_of, npio2, pio2_1}

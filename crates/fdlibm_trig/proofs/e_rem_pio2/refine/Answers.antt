@@ -1,5 +1,5 @@
 -- The tests of the code are those of `refine_of`, in the same order.
-use Rattle.prelude.proofs.Logic.{rules, lt-ltb, le-ltb}
+use Rattle.prelude.proofs.Logic.{lt-ltb, le-ltb}
 use Rattle.fdlibm_trig.specs.RemPio2.{refine_of}
 use Rattle.fdlibm_trig.proofs.e_rem_pio2.refine.Goals as goal
 

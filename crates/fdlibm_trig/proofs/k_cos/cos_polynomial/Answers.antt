@@ -1,4 +1,4 @@
-use Rattle.prelude.proofs.Logic.{sym, rules, lt-ltb, le-ltb}
+use Rattle.prelude.proofs.Logic.{sym, lt-ltb, le-ltb}
 use Rattle.fdlibm_trig.specs.KCos.{kernel_cos_of}
 use Rattle.fdlibm_trig.proofs.k_cos.cos_polynomial.Goals as goal
 

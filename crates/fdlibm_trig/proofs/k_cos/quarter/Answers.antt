@@ -1,4 +1,4 @@
-use Rattle.prelude.proofs.Logic.{◌-◌, ◌<◌, arith, rules, lt-ltb, le-ltb}
+use Rattle.prelude.proofs.Logic.{◌-◌, ◌<◌, arith, lt-ltb, le-ltb}
 use Rattle.fdlibm_trig.proofs.Shifts.{below_inf, shifted}
 use Rattle.fdlibm_trig.specs.KCos.{quarter_of}
 use Rattle.fdlibm_trig.proofs.k_cos.quarter.Goals as goal

@@ -1,4 +1,4 @@
-use Rattle.prelude.proofs.Logic.{sym, rules, le-leb, lt-leb}
+use Rattle.prelude.proofs.Logic.{sym, le-leb, lt-leb}
 use Rattle.fdlibm_trig.specs.Trig.{cos_of}
 use Rattle.fdlibm_trig.proofs.Signs.{within_seventy}
 use Rattle.fdlibm_trig.proofs.s_cos.cos.Goals as goal

@@ -1,4 +1,4 @@
-use Rattle.prelude.proofs.Logic.{◌∙◌, sym, lit≤, length-take-le, rules}
+use Rattle.prelude.proofs.Logic.{◌∙◌, sym, lit≤, length-take-le}
 use Rattle.fields.specs.Numbers.{bits_of}
 use Rattle.fields.proofs.Joining.{cut_joined}
 use Rattle.fields.proofs.numbers.bits.Goals as goal

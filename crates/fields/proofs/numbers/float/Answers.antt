@@ -1,5 +1,4 @@
 use Rattle.fields.specs.Numbers.{float_of}
-use Rattle.prelude.proofs.Logic.{rules}
 use Rattle.fields.proofs.numbers.float.Goals as goal
 
 pub returns : goal.returns

@@ -1,5 +1,5 @@
 -- Invariant: x is the number that the first i bytes write, and has at most 8 i bits.
-use Rattle.prelude.proofs.Logic.{◌≡◌, refl, ap, ◌∙◌, ℕ, ◌≤◌, ◌<◌, ◌-◌, ◌*◌, ◌^◌, arith, rules}
+use Rattle.prelude.proofs.Logic.{◌≡◌, refl, ap, ◌∙◌, ℕ, arith}
 use Rattle.fields.specs.Numbers.{bytes_number_of, bits_of}
 use Rattle.fields.proofs.Joining.{join_on, shift_in, shift_room}
 use Rattle.fields.proofs.numbers.joined.Goals as goal

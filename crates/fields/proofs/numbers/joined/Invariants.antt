@@ -1,6 +1,5 @@
-use Rattle.prelude.proofs.Logic.{◌≡◌, ap, ◌∙◌, ℕ, ◌≤◌, ◌<◌, ◌-◌, ◌*◌, ◌^◌, arith, rules}
-use Rattle.fields.specs.Numbers.{bytes_number_of, bits_of}
-use Rattle.fields.proofs.Joining.{join_on, shift_in, shift_room}
+use Rattle.prelude.proofs.Logic.{◌≡◌, ◌≤◌, ◌<◌, ◌-◌, ◌*◌, ◌^◌}
+use Rattle.fields.specs.Numbers.{bytes_number_of}
 use Rattle.fields.proofs.numbers.joined.Given as goal
 
 abbrev pub invariant-loop-i : goal.invariant-loop-i

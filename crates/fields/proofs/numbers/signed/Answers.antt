@@ -1,4 +1,3 @@
-use Rattle.prelude.proofs.Logic.{rules}
 use Rattle.fields.proofs.Joining.{less_fits, signed_low, signed_high}
 use Rattle.fields.proofs.numbers.signed.Goals as goal
 

@@ -10,7 +10,6 @@ returns-else-at-bytes c =
     let a = c.args.at in
     let low : get_or v a 0 ≡ 0 = List·getD-eq-default v 0 c.if-at-bytes.false in
     let high : get_or v (a + 1) 0 ≡ 0 = List·getD-eq-default v 0 (omega arith) in
-    
     record {
       value = simp (low, high);
       upper_bound = search rules;

@@ -1,5 +1,5 @@
 -- Past the end `get_or` gives 0.
-use Rattle.prelude.proofs.Logic.{◌≡◌, get_or, List·getD-eq-default, rules}
+use Rattle.prelude.proofs.Logic.{◌≡◌, get_or, List·getD-eq-default}
 use Rattle.fields.proofs.one_pass.collected.Goals as goal
 
 pub returns : goal.returns

@@ -1,10 +1,10 @@
 -- Invariant: with what was collected, which tells the tags seen, both passes of the definition give from here on what they give from the
 -- start.
-use Rattle.prelude.proofs.Logic.{◌≡◌, sym, ap, ◌∙◌, ℕ, ◌-◌, arith, length, rules}
+use Rattle.prelude.proofs.Logic.{◌≡◌, sym, ap, ◌∙◌, ℕ, arith}
 use Rattle.refusals.specs.Refusals.{refusal}
 use Rattle.fields.specs.Fields.{length_at, fault_of}
 use Rattle.fields.proofs.FieldsLaws.{Good, fault_cut, fault_none, good_row, good_short}
-use Rattle.fields.proofs.Collecting.{Collecting, seen_in, seen_collected, collect_first, fault_is, refused-here, nothing-refused}
+use Rattle.fields.proofs.Collecting.{seen_in, seen_collected, collect_first, fault_is, refused-here, nothing-refused}
 use Rattle.fields.proofs.Collecting.{collected-on, collected-all, check_walk, checked_not, checked_all}
 use Rattle.fields.proofs.one_pass.pass.Goals as goal
 use Rattle.fields.proofs.one_pass.pass.Goals.{After-fault-number}

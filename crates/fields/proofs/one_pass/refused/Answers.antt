@@ -1,4 +1,3 @@
-use Rattle.prelude.proofs.Logic.{rules}
 use Rattle.fields.proofs.one_pass.refused.Goals as goal
 
 pub returns : goal.returns

@@ -1,5 +1,5 @@
 -- The walk needs an order of at most 1,024 bytes.
-use Rattle.prelude.proofs.Logic.{sym, rules, lt-ltb, le-ltb}
+use Rattle.prelude.proofs.Logic.{sym, lt-ltb, le-ltb}
 use Rattle.fields.specs.Fields.{check_of}
 use Rattle.fields.proofs.plain.check.Goals as goal
 

@@ -1,8 +1,8 @@
 -- Invariant: with what was collected, the definition collects from here on what it collects from the start.
-use Rattle.prelude.proofs.Logic.{◌≡◌, ◌-◌, arith, length, rules}
+use Rattle.prelude.proofs.Logic.{◌≡◌, arith}
 use Rattle.fields.specs.Fields.{fault_of}
-use Rattle.fields.proofs.FieldsLaws.{Good, Sound, check_none, fault_none, good_row, good_short}
-use Rattle.fields.proofs.Collecting.{Collecting, seen_in, collect_first, sound-here, collected-on, collected-all}
+use Rattle.fields.proofs.FieldsLaws.{Good, check_none, fault_none, good_row, good_short}
+use Rattle.fields.proofs.Collecting.{seen_in, collect_first, sound-here, collected-on, collected-all}
 use Rattle.fields.proofs.plain.collect.Goals as goal
 use Rattle.fields.proofs.plain.collect.Goals.{In-loop-at}
 

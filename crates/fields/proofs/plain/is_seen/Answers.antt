@@ -1,5 +1,5 @@
 -- Past the end `get_or` gives false.
-use Rattle.prelude.proofs.Logic.{sym, false, List·getD-eq-default, rules}
+use Rattle.prelude.proofs.Logic.{sym, false, List·getD-eq-default}
 use Rattle.fields.proofs.plain.is_seen.Goals as goal
 
 pub returns : goal.returns

@@ -1,9 +1,9 @@
 -- Invariant: with the tags seen, the definition gives from here on what it gives from the start.
-use Rattle.prelude.proofs.Logic.{◌≡◌, sym, ap, ◌∙◌, ℕ, ◌-◌, length, rules}
+use Rattle.prelude.proofs.Logic.{◌≡◌, sym, ap, ◌∙◌, ℕ}
 use Rattle.refusals.specs.Refusals.{refusal}
 use Rattle.fields.specs.Fields.{fault_of}
 use Rattle.fields.proofs.FieldsLaws.{fault_none, good_row}
-use Rattle.fields.proofs.Collecting.{Checking, check_first, fault_is, checked-stop, checked-end, checked-on}
+use Rattle.fields.proofs.Collecting.{check_first, fault_is, checked-stop, checked-end, checked-on}
 use Rattle.fields.proofs.plain.walk.Goals as goal
 use Rattle.fields.proofs.plain.walk.Goals.{After-fault-number}
 

@@ -1,5 +1,5 @@
 -- The code's table is the definition's, and each of its numbers fits a byte.
-use Rattle.prelude.proofs.Logic.{arith, rules, le-leb, lt-leb}
+use Rattle.prelude.proofs.Logic.{arith, le-leb, lt-leb}
 use Rattle.fields.specs.Tags.{choice_fits}
 use Rattle.fields.proofs.FieldsLaws.{column_small}
 use Rattle.fields.proofs.tags.choice_fits.Goals as goal

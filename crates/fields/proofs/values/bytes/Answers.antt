@@ -1,4 +1,3 @@
-use Rattle.prelude.proofs.Logic.{rules}
 use Rattle.fields.proofs.Parts.{part_least}
 use Rattle.fields.proofs.values.bytes.Goals as goal
 

@@ -1,4 +1,4 @@
-use Rattle.prelude.proofs.Logic.{sym, rules}
+use Rattle.prelude.proofs.Logic.{sym}
 use Rattle.hijri.proofs.YearSteps.{leap_by_remainder}
 use Rattle.hijri.proofs.counts.is_leap_year.Goals as goal
 

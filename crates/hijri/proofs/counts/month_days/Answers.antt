@@ -1,4 +1,4 @@
-use Rattle.prelude.proofs.Logic.{◌≡◌, sym, arith, rules, eq-eqb, ne_eqb}
+use Rattle.prelude.proofs.Logic.{◌≡◌, sym, arith, eq-eqb, ne_eqb}
 use Rattle.hijri.specs.Rule.{length_of}
 use Rattle.hijri.proofs.MonthSteps.{length_none, length_past, length_turn}
 use Rattle.hijri.proofs.counts.month_days.Goals as goal
@@ -20,6 +20,6 @@ returns c =
     let s = c.before.before.before in
     let t = length_turn s.args.leap s.args.month (omega arith) (omega arith) in
     elim c.else-month-eq12.branch [
-      else-month-eq12-via-then-month-eq12+else-leap w ↦ sym (t (simp (eq-eqb _ _ w.if-month-eq12.true, w.if-leap.false)))
-    | else-month-eq12-via-else-month-eq12 w ↦ sym (t (simp (ne_eqb _ _ w.if-month-eq12.false)))
+      | else-month-eq12-via-then-month-eq12+else-leap w ↦ sym (t (simp (eq-eqb _ _ w.if-month-eq12.true, w.if-leap.false)))
+      | else-month-eq12-via-else-month-eq12 w ↦ sym (t (simp (ne_eqb _ _ w.if-month-eq12.false)))
     ]

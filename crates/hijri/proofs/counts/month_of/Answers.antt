@@ -1,4 +1,4 @@
-use Rattle.prelude.proofs.Logic.{rules, lt-ltb, le-ltb}
+use Rattle.prelude.proofs.Logic.{lt-ltb, le-ltb}
 use Rattle.hijri.specs.Days.{month_of}
 use Rattle.hijri.proofs.counts.month_of.Goals as goal
 

@@ -1,4 +1,4 @@
-use Rattle.prelude.proofs.Logic.{refl, rules}
+use Rattle.prelude.proofs.Logic.{refl}
 use Rattle.hijri.specs.Days.{year_start_of}
 use Rattle.hijri.proofs.counts.year_start.Goals as goal
 

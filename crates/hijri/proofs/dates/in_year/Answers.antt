@@ -1,4 +1,4 @@
-use Rattle.prelude.proofs.Logic.{arith, rules}
+use Rattle.prelude.proofs.Logic.{arith}
 use Rattle.hijri.specs.Days.{in_year_of}
 use Rattle.hijri.proofs.ByCount.{month-small, month-less}
 use Rattle.hijri.proofs.dates.in_year.Goals as goal

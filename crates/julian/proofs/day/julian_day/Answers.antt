@@ -1,5 +1,5 @@
 -- January and February are months 13 and 14 of the year before, in the code as in the definition.
-use Rattle.prelude.proofs.Logic.{◌≡◌, true, false, lit≤, pos, lt_z, rules, w32}
+use Rattle.prelude.proofs.Logic.{◌≡◌, true, false, lit≤, pos, lt_z, w32}
 use Rattle.float64.proofs.Floats.{round, of_bits, dec}
 use Rattle.integers.proofs.Integers.{read, wide, read_wide, constant, of_wide, held_sum, held_difference, held_fits, stored}
 use Rattle.julian.specs.Julian.{julian_day_of}

@@ -1,4 +1,4 @@
-use Rattle.prelude.proofs.Logic.{rules, lt-ltb, le-ltb}
+use Rattle.prelude.proofs.Logic.{lt-ltb, le-ltb}
 use Rattle.julian.specs.Julian.{to_i32_of}
 use Rattle.julian.proofs.day.saturated.Goals as goal
 

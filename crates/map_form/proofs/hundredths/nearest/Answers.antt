@@ -1,5 +1,5 @@
 -- A law for a float so small that its count is 0, and one for the rest.
-use Rattle.prelude.proofs.Logic.{◌-◌, ◌/◌, ◌%◌, ◌^◌, div-le_self, arith, lit≤, rules}
+use Rattle.prelude.proofs.Logic.{◌-◌, ◌/◌, ◌%◌, ◌^◌, div-le_self, arith, lit≤}
 use Rattle.float64.proofs.Floats.{binary64, to_bits}
 use Rattle.map_form.proofs.Fields.{none, some, highest-field}
 use Rattle.map_form.proofs.Range.{no_nan, count_le}

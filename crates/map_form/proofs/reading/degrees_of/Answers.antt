@@ -1,5 +1,5 @@
 -- A law for each branch.
-use Rattle.prelude.proofs.Logic.{◌^◌, arith, le→leb, rules}
+use Rattle.prelude.proofs.Logic.{◌^◌, arith, le→leb}
 use Rattle.float64.proofs.Floats.{in_float}
 use Rattle.map_form.proofs.Quotient.{negative, naught, plain}
 use Rattle.map_form.proofs.reading.degrees_of.Goals as goal

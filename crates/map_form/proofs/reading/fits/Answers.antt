@@ -1,5 +1,4 @@
 use Rattle.map_form.specs.Hundredths.{form_fits}
-use Rattle.prelude.proofs.Logic.{rules}
 use Rattle.map_form.proofs.reading.fits.Goals as goal
 
 pub returns : goal.returns

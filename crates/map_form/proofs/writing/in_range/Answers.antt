@@ -1,5 +1,5 @@
 -- One comparison of sizes.
-use Rattle.prelude.proofs.Logic.{◌^◌, arith, le→leb, rules}
+use Rattle.prelude.proofs.Logic.{◌^◌, arith, le→leb}
 use Rattle.float64.proofs.Floats.{in_float}
 use Rattle.map_form.proofs.Range.{at_most_lem, whole_value}
 use Rattle.map_form.proofs.writing.in_range.Goals as goal

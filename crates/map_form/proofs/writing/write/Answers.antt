@@ -1,5 +1,5 @@
 -- Two cases: in range and out of range.
-use Rattle.prelude.proofs.Logic.{sym, ◌∙◌, rules}
+use Rattle.prelude.proofs.Logic.{sym, ◌∙◌}
 use Rattle.map_form.proofs.Range.{wider}
 use Rattle.map_form.proofs.Signs.{inside, outside}
 use Rattle.map_form.proofs.writing.write.Goals as goal

@@ -1,5 +1,4 @@
 -- The answer that is computed is owed.
-use Rattle.prelude.proofs.Logic.{rules}
 use Rattle.map_form.specs.Hundredths.{most_latitude}
 use Rattle.map_form.specs.Written.{map_latitude_tag}
 use Rattle.map_form.proofs.NearestLaws.{owed}

@@ -1,4 +1,4 @@
-use Rattle.prelude.proofs.Logic.{◌≡◌, ap, ◌∙◌, true, T, ◌^◌, ℤ, pos, negsuc, le_z, arith, rules, w64, le→leb, lt→ltb}
+use Rattle.prelude.proofs.Logic.{◌≡◌, ap, ◌∙◌, true, T, ◌^◌, ℤ, pos, negsuc, le_z, arith, w64, le→leb, lt→ltb}
 use Rattle.prelude.proofs.Ieee.{binary64, of_int}
 use Rattle.integers.proofs.Integers.{le_yes, read}
 use Rattle.float64.proofs.Floats.{in_float}

@@ -7,10 +7,10 @@ pub returns-then-has : goal.returns-then-has
 unfolding byte_or values_in
 returns-then-has c =
     simp (
-    sym c.byte.ensures.value,
-    sym c.value.ensures,
-    sym c.has.ensures,
-    c.if-has.true,
+      sym c.byte.ensures.value,
+      sym c.value.ensures,
+      sym c.has.ensures,
+      c.if-has.true,
     )
 
 pub returns-else-has : goal.returns-else-has

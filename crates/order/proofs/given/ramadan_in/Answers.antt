@@ -1,5 +1,5 @@
 -- The stored shift is a byte, so the shift, which is one less, fits an i32.
-use Rattle.prelude.proofs.Logic.{◌≡◌, sym, ℕ, ◌<◌, arith, pos, ◌-ℤ◌, rules, w32, SFits, to_z}
+use Rattle.prelude.proofs.Logic.{◌≡◌, sym, ℕ, ◌<◌, arith, pos, ◌-ℤ◌, w32, SFits, to_z}
 use Rattle.fields.specs.Values.{values_in}
 use Rattle.integers.proofs.Integers.{fits, read_back, read, difference}
 use Rattle.order.specs.Given.{ramadan_given, ramadan_in}

@@ -1,5 +1,5 @@
 -- A proof for each test, if those before it passed.
-use Rattle.prelude.proofs.Logic.{sym, rules, le-leb, lt-leb}
+use Rattle.prelude.proofs.Logic.{sym, le-leb, lt-leb}
 use Rattle.order.specs.Ranges.{rows_fit}
 use Rattle.order.proofs.RowDates.{rows_early}
 use Rattle.order.proofs.ranges.rows_fit.Goals as goal

@@ -1,6 +1,5 @@
 -- Invariant: the rest of the text is printable if and only if the whole text is.
-use Rattle.prelude.proofs.Logic.{◌≡◌, sym, ◌∙◌, ◌≤◌, ◌-◌, length, drop, rules}
-use Rattle.text.specs.Text.{printable}
+use Rattle.prelude.proofs.Logic.{sym, ◌∙◌, rules}
 use Rattle.order.proofs.Text.{byte_low, byte_high, byte_on, text_end}
 use Rattle.order.proofs.ranges.text_fits.Goals as goal
 

@@ -1,6 +1,5 @@
-use Rattle.prelude.proofs.Logic.{◌≡◌, sym, ◌∙◌, ◌≤◌, ◌-◌, length, drop, rules}
+use Rattle.prelude.proofs.Logic.{◌≡◌, ◌≤◌, ◌-◌, length, drop}
 use Rattle.text.specs.Text.{printable}
-use Rattle.order.proofs.Text.{byte_low, byte_high, byte_on, text_end}
 use Rattle.order.proofs.ranges.text_fits.Given as goal
 
 abbrev pub invariant-loop-i : goal.invariant-loop-i

@@ -1,7 +1,7 @@
 -- Invariant: the first tag that fails from here on is the first of all that fails.
-use Rattle.prelude.proofs.Logic.{◌≡◌, refl, sym, ◌∙◌, ◌-◌, ◌≤◌, arith, drop, rules}
+use Rattle.prelude.proofs.Logic.{refl, sym, ◌∙◌, arith, rules}
 use Rattle.fields.specs.Values.{has_in}
-use Rattle.order.specs.Reading.{first_failing, required, is_given_of, missing_of}
+use Rattle.order.specs.Reading.{required, is_given_of, missing_of}
 use Rattle.order.proofs.Tags.{fails, on, none}
 use Rattle.order.proofs.reading.missing.Goals as goal
 
@@ -15,12 +15,11 @@ returns-then-not-is_given c =
     (sym c.is_given.ensures ∙ c.if-not-is_given.true)) ∙ c.loop-i.invariant.1
 
 pub loop-i-preserved : goal.loop-i-preserved
-loop-i-preserved c =
-    (
-      search rules,
-      sym (on 4 (is_given_of (has_in c.args.fields)) required c.loop-i.i c.loop-i-test.true _ refl
-          (sym c.is_given.ensures ∙ c.if-not-is_given.false)) ∙ c.loop-i.invariant.1,
-    )
+loop-i-preserved c = (
+  search rules,
+  sym (on 4 (is_given_of (has_in c.args.fields)) required c.loop-i.i c.loop-i-test.true _ refl
+      (sym c.is_given.ensures ∙ c.if-not-is_given.false)) ∙ c.loop-i.invariant.1,
+)
 
 pub returns : goal.returns
 returns c =

@@ -1,7 +1,6 @@
-use Rattle.prelude.proofs.Logic.{◌≡◌, refl, sym, ◌∙◌, ◌-◌, ◌≤◌, arith, drop, rules, not-true, not-false}
+use Rattle.prelude.proofs.Logic.{◌≡◌, ◌-◌, ◌≤◌, drop}
 use Rattle.fields.specs.Values.{has_in}
 use Rattle.order.specs.Reading.{first_failing, required, is_given_of, missing_of}
-use Rattle.order.proofs.Tags.{fails, on, none}
 use Rattle.order.proofs.reading.missing.Given as goal
 
 abbrev pub invariant-loop-i : goal.invariant-loop-i

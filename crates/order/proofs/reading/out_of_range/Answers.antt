@@ -1,5 +1,5 @@
 -- Invariant: the first tag that fails from here on is the first of all that fails.
-use Rattle.prelude.proofs.Logic.{◌≡◌, refl, sym, ◌∙◌, Bool, ℕ, arith, drop, rules}
+use Rattle.prelude.proofs.Logic.{◌≡◌, refl, sym, ◌∙◌, Bool, ℕ, arith, drop}
 use Rattle.fields.specs.Tags.{last_tag}
 use Rattle.fields.specs.Values.{values_in}
 use Rattle.order.specs.Reading.{first_failing, tags_from, out_of_range_of}
@@ -32,7 +32,7 @@ returns-then-not-in_range c =
     let t = c.loop-passed-test.true in
     c.new.ensures
     ∙ sym (fails 5 (passing l) (tags_from last_tag 1) l.loop-passed.passed (omega (arith, all_tags)) _
-          (tags_from_lem last_tag 1 l.loop-passed.passed t) (sym c.in_range.ensures ∙ c.if-not-in_range.true))
+    (tags_from_lem last_tag 1 l.loop-passed.passed t) (sym c.in_range.ensures ∙ c.if-not-in_range.true))
     ∙ first l
 
 pub loop-passed-preserved : goal.loop-passed-preserved
@@ -43,7 +43,7 @@ loop-passed-preserved c =
       omega arith,
       sym (on 5 (passing l) (tags_from last_tag 1) l.loop-passed.passed (omega (arith, all_tags)) _
           (tags_from_lem last_tag 1 l.loop-passed.passed t) (sym c.in_range.ensures ∙ c.if-not-in_range.false))
-      ∙ l.loop-passed.invariant.1,
+          ∙ l.loop-passed.invariant.1,
     )
 
 pub returns : goal.returns

@@ -1,5 +1,5 @@
 -- Two cases: a record was read, or a refusal.
-use Rattle.prelude.proofs.Logic.{refl, rules}
+use Rattle.prelude.proofs.Logic.{refl}
 use Rattle.order.specs.Reading.{town_in}
 use Rattle.order.proofs.reading.town.Goals as goal
 

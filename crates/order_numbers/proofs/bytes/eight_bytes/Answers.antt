@@ -1,4 +1,4 @@
-use Rattle.prelude.proofs.Logic.{rules, refl}
+use Rattle.prelude.proofs.Logic.{refl}
 use Rattle.order_numbers.specs.Bytes.{eight_bytes}
 use Rattle.order_numbers.proofs.bytes.eight_bytes.Goals as goal
 

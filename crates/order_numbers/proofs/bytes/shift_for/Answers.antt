@@ -1,4 +1,4 @@
-use Rattle.prelude.proofs.Logic.{rules, lt-ltb, le-ltb}
+use Rattle.prelude.proofs.Logic.{lt-ltb, le-ltb}
 use Rattle.order_numbers.specs.Bytes.{shift_for}
 use Rattle.order_numbers.proofs.bytes.shift_for.Goals as goal
 

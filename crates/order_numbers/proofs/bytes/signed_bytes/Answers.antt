@@ -1,4 +1,4 @@
-use Rattle.prelude.proofs.Logic.{rules, ap, ◌∙◌}
+use Rattle.prelude.proofs.Logic.{ap, ◌∙◌}
 use Rattle.integers.proofs.Integers.{wide}
 use Rattle.order_numbers.specs.Bytes.{two_bytes, sixteen_for}
 use Rattle.order_numbers.proofs.PutLaws.{parts_kept}

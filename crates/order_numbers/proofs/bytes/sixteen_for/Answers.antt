@@ -1,4 +1,4 @@
-use Rattle.prelude.proofs.Logic.{rules, arith, lt-ltb, le-ltb}
+use Rattle.prelude.proofs.Logic.{arith, lt-ltb, le-ltb}
 use Rattle.order_numbers.specs.Bytes.{sixteen_for}
 use Rattle.order_numbers.proofs.bytes.sixteen_for.Goals as goal
 

@@ -1,4 +1,4 @@
-use Rattle.prelude.proofs.Logic.{rules, refl}
+use Rattle.prelude.proofs.Logic.{refl}
 use Rattle.order_numbers.specs.Bytes.{two_bytes}
 use Rattle.order_numbers.proofs.bytes.two_bytes.Goals as goal
 

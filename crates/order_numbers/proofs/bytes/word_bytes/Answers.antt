@@ -1,4 +1,3 @@
-use Rattle.prelude.proofs.Logic.{rules}
 use Rattle.order_numbers.proofs.bytes.word_bytes.Goals as goal
 
 pub returns : goal.returns

@@ -1,4 +1,3 @@
-use Rattle.prelude.proofs.Logic.{rules}
 use Rattle.order_numbers.specs.Numbers.{order_numbers_in}
 use Rattle.order_numbers.proofs.numbers.numbers_of.Goals as goal
 

@@ -1,4 +1,3 @@
-use Rattle.prelude.proofs.Logic.{rules}
 use Rattle.order_numbers.specs.Bytes.{two_bytes}
 use Rattle.order_numbers.specs.Values.{date_bytes}
 use Rattle.order_numbers.proofs.put.date_bytes.Goals as goal

@@ -1,5 +1,4 @@
 -- The five groups follow one another.
-use Rattle.prelude.proofs.Logic.{rules}
 use Rattle.order_numbers.specs.Values.{start_fields, setting_fields, time_fields, rule_fields, ramadan_fields, encode}
 use Rattle.order_numbers.proofs.PutLaws.{groups}
 use Rattle.order_numbers.proofs.put.put_order.Goals as goal
@@ -7,7 +6,7 @@ use Rattle.order_numbers.proofs.put.put_order.Goals as goal
 pub returns : goal.returns
 unfolding encode
 returns c =
-    let a = c.args in 
+    let a = c.args in
     record {
       upper_bound = c.put_ramadan.ensures.upper_bound;
       line_after = simp (

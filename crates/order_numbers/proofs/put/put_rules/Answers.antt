@@ -7,7 +7,7 @@ use Rattle.order_numbers.proofs.put.put_rules.Goals as goal
 pub returns : goal.returns
 returns c =
     let a = c.args in
-    let f : SFits w32 a.c.clock = search rules in 
+    let f : SFits w32 a.c.clock = search rules in
     record {
       value = omega arith;
       line_after = simp (

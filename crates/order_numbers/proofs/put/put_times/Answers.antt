@@ -1,12 +1,12 @@
 -- The four fields follow one another: each put adds its own to those before.
-use Rattle.prelude.proofs.Logic.{rules, arith, take}
+use Rattle.prelude.proofs.Logic.{arith, take}
 use Rattle.order_numbers.specs.Values.{time_fields}
 use Rattle.order_numbers.proofs.PutLaws.{laid}
 use Rattle.order_numbers.proofs.put.put_times.Goals as goal
 
 pub returns : goal.returns
 returns c =
-    let a = c.args in 
+    let a = c.args in
     record {
       value = omega arith;
       line_after = simp (

@@ -1,12 +1,11 @@
 -- A town of up to 41 bytes is put as it is. Only the first 41 bytes of a longer one are put.
-use Rattle.prelude.proofs.Logic.{rules, arith, lit≤, take_all, length-take}
+use Rattle.prelude.proofs.Logic.{arith, lit≤, take_all, length-take}
 use Rattle.order_numbers.proofs.put.put_town.Goals as goal
 
 pub returns-then-town-le-TOWN_CUT : goal.returns-then-town-le-TOWN_CUT
 returns-then-town-le-TOWN_CUT c =
     let few = c.if-town-le-TOWN_CUT.true in
     let town = c.args.town.now in
-    
     record {
       upper_bound = omega (arith, c.put_field.ensures.value);
       line_after = rw (take_all 41 town few) c.put_field.ensures.line_after;

@@ -1,5 +1,5 @@
 -- The line has the order's bytes, and `hand_out` writes them to the buffer.
-use Rattle.prelude.proofs.Logic.{rules, sym, arith, length-take, length-take-le}
+use Rattle.prelude.proofs.Logic.{sym, arith, length-take, length-take-le}
 use Rattle.order_numbers.proofs.writing.write_order.Goals as goal
 
 pub slice_bounds-hand_out-end : goal.slice_bounds-hand_out-end
@@ -15,7 +15,6 @@ hand_out-requires c =
 
 pub returns : goal.returns
 returns c =
-    
     record {
       value = simp (← c.put_order-length.ensures.line_after) c.hand_out.ensures.value;
       buffer_after = simp (← c.put_order-length.ensures.line_after) c.hand_out.ensures.buffer_after;

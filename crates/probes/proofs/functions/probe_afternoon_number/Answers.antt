@@ -6,4 +6,4 @@ pub returns : goal.returns
 returns c =
     let a = c.args in
     simp (c.afternoon_number.ensures, c.course.ensures)
-    (afternoon-shared (probe_sun_of a.year a.month a.day a.latitude a.longitude) a.shadow-length)
+    (afternoon-shared (probe_sun_of a.year a.month a.day a.latitude a.longitude) a.shadow_length)

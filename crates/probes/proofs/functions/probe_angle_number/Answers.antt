@@ -7,4 +7,4 @@ pub returns : goal.returns
 returns c =
     let a = c.args in
     simp (c.angle_number.ensures, c.new.ensures, c.course.ensures)
-    (angle-shared (probe_sun_of a.year a.month a.day a.latitude a.longitude) (angle_of a.angle) a.after-transit)
+    (angle-shared (probe_sun_of a.year a.month a.day a.latitude a.longitude) (angle_of a.angle) a.after_transit)

@@ -7,9 +7,8 @@ use Rattle.probes.proofs.readers.answer.Goals as goal
 pub returns-in-Read : goal.returns-in-Read
 unfolding answer_of order_numbers_in
 returns-in-Read c =
-    let matched = c.before.before.before in
-    simp (matched.Numbers-of.ensures, matched.in-Read.is)
+    simp (c.numbers_of-numbers.ensures, c.in-Read.is)
 
 pub returns-in-Refused : goal.returns-in-Refused
 unfolding answer_of order_numbers_in dec round of_bits
-returns-in-Refused c = simp (c.Numbers-of.ensures, c.in-Refused.is)
+returns-in-Refused c = simp (c.numbers_of-numbers.ensures, c.in-Refused.is)

@@ -12,6 +12,6 @@ unfolding quadrant_shifted_of dec round of_bits
 returns-else-degrees c =
     let e = c.round.ensures in
     elim c.else-degrees.branch [
-      else-degrees-via-then-degrees+else-degrees-2 w ↦ simp (e, w.if-degrees.true, w.if-degrees-2.false)
-    | else-degrees-via-else-degrees w ↦ simp (e, w.if-degrees.false)
+      | else-degrees-via-then-degrees+else-degrees-2 w ↦ simp (e, w.if-degrees.true, w.if-degrees-2.false)
+      | else-degrees-via-else-degrees w ↦ simp (e, w.if-degrees.false)
     ]

@@ -1,4 +1,4 @@
-use Rattle.prelude.proofs.Logic.{sym, pos, rules}
+use Rattle.prelude.proofs.Logic.{sym, pos}
 use Rattle.whole_minutes.proofs.TimesLaws.{nearest_ahead, up_ahead, none_stays}
 use Rattle.whole_minutes.proofs.times.rounded_short.Goals as goal
 

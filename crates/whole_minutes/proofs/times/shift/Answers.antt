@@ -1,4 +1,4 @@
-use Rattle.prelude.proofs.Logic.{◌∙◌, arith, lit≤, rules, lt-ltb, le-ltb}
+use Rattle.prelude.proofs.Logic.{◌∙◌, arith, lit≤, lt-ltb, le-ltb}
 use Rattle.whole_minutes.specs.Times.{shift_of}
 use Rattle.whole_minutes.proofs.Minutes as minutes
 use Rattle.whole_minutes.proofs.times.shift.Goals as goal

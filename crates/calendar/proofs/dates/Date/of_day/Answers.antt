@@ -1,5 +1,5 @@
 -- The year of the count, and then the day of that year, are the date of the day (`ByCount`).
-use Rattle.prelude.proofs.Logic.{arith, rules, w64}
+use Rattle.prelude.proofs.Logic.{arith, w64}
 use Rattle.integers.proofs.Integers.{read}
 use Rattle.calendar.specs.Days.{date_at_of}
 use Rattle.calendar.proofs.ByCount.{days-fit, year-fits, Rest, rest, since_held}

@@ -1,4 +1,4 @@
-use Rattle.prelude.proofs.Logic.{rules, [], ◌∷◌}
+use Rattle.prelude.proofs.Logic.{[], ◌∷◌}
 use Rattle.models.proofs.Models.{MiddleOfTheNight, SeventhOfTheNight, TwilightAngle, rule_of, inside, beyond}
 use Rattle.models.proofs.high_altitude_rule.HighLatitudeRule.of_number.Goals as goal
 

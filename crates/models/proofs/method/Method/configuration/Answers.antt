@@ -1,6 +1,5 @@
 use Rattle.float64.proofs.Floats.{round, of_bits, dec}
 use Rattle.models.proofs.Models.{set_isha_interval, preset_of, preset, parameters_new_of}
-use Rattle.prelude.proofs.Logic.{rules}
 use Rattle.models.proofs.method.Method.configuration.Goals as goal
 
 pub returns-in-MuslimWorldLeague : goal.returns-in-MuslimWorldLeague

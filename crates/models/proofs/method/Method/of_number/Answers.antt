@@ -1,4 +1,3 @@
-use Rattle.prelude.proofs.Logic.{rules}
 use Rattle.models.proofs.Models.{MuslimWorldLeague, Other, methods, method_of, inside, beyond}
 use Rattle.models.proofs.method.Method.of_number.Goals as goal
 

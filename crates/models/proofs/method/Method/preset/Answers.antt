@@ -1,4 +1,3 @@
-use Rattle.prelude.proofs.Logic.{rules}
 use Rattle.models.specs.Settings.{parameters_new_of}
 use Rattle.models.proofs.method.Method.preset.Goals as goal
 

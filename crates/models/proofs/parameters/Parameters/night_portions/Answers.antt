@@ -1,6 +1,5 @@
 use Rattle.float64.proofs.Floats.{round, of_bits, dec}
 use Rattle.models.specs.Settings.{portions_of}
-use Rattle.prelude.proofs.Logic.{rules}
 use Rattle.models.proofs.parameters.Parameters.night_portions.Goals as goal
 
 pub returns-in-MiddleOfTheNight : goal.returns-in-MiddleOfTheNight

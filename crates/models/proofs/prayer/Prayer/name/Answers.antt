@@ -1,4 +1,4 @@
-use Rattle.prelude.proofs.Logic.{sym, ap, ◌∙◌, rules, w64}
+use Rattle.prelude.proofs.Logic.{sym, ap, ◌∙◌, w64}
 use Rattle.integers.proofs.Integers.{read}
 use Rattle.models.specs.Names.{is_friday_of, prayer_name_of}
 use Rattle.models.proofs.prayer.Prayer.name.Goals as goal

@@ -1,4 +1,3 @@
-use Rattle.prelude.proofs.Logic.{rules}
 use Rattle.models.proofs.Models.{Fajr, FajrTomorrow, prayers, prayer_of, inside, beyond}
 use Rattle.models.proofs.prayer.Prayer.of_number.Goals as goal
 

@@ -1,4 +1,4 @@
-use Rattle.prelude.proofs.Logic.{rules, [], ◌∷◌}
+use Rattle.prelude.proofs.Logic.{[], ◌∷◌}
 use Rattle.models.proofs.Models.{Nearest, Up, None, rounding_of, inside, beyond}
 use Rattle.models.proofs.rounding.Rounding.of_number.Goals as goal
 

@@ -1,4 +1,4 @@
-use Rattle.prelude.proofs.Logic.{rules, [], ◌∷◌}
+use Rattle.prelude.proofs.Logic.{[], ◌∷◌}
 use Rattle.models.proofs.Models.{General, Ahmer, Abyad, shafaq_of, inside, beyond}
 use Rattle.models.proofs.shafaq.Shafaq.of_number.Goals as goal
 
