@@ -13,7 +13,7 @@ write_read-requires c = search (taken, rules)
 
 pub returns-in-Read : goal.returns-in-Read
 returns-in-Read c =
-    let both = called-read _ _ _ _ (search rules) _ (search returned) _ _ c.write_read.ensures in record { value = both.0; buffer_after = both.1 }
+    let both = called-read _ _ _ _ (search rules) _ (search returned) _ _ (c.write_read.ensures.value, c.write_read.ensures.buffer_after) in record { value = both.0; buffer_after = both.1 }
 
 pub returns-in-Refused : goal.returns-in-Refused
 returns-in-Refused c =

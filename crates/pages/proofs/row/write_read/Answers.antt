@@ -6,7 +6,7 @@ pub returns-then-row-order : goal.returns-then-row-order
 returns-then-row-order c =
     let h = c.if-row-order.true in
     let put = c.write_rows.ensures in
-    let both = rows_answered _ _ _ _ _ (row_one _ _ h) (row_there _ _ h) put.0 put.1 in record { value = both.0; buffer_after = both.1 }
+    let both = rows_answered _ _ _ _ _ (row_one _ _ h) (row_there _ _ h) put.value put.buffer_after in record { value = both.0; buffer_after = both.1 }
 
 pub returns : goal.returns
 returns c =

@@ -3,7 +3,6 @@ use Rattle.braille.specs.Cells.{row_cells}
 use Rattle.calendar.specs.declared.dates.Date.{Date}
 use Rattle.days.proofs.RowStates.{next-state}
 use Rattle.integers.proofs.Ranges.{read}
-use Rattle.schedule.specs.{RowSuns.rowSunsOf, RowSuns.nextRowSunsOf, declared.prayer_times.Worked.Worked}
 use Rattle.pages.proofs.Rolled.{clock_fits_lem, Run, Behind, done_none, run_row}
 use Rattle.pages.proofs.rows.put_rows.Given as goal
 

@@ -7,4 +7,4 @@ returns c =
     let start = c in
     let a = start.args in
     let put = c.put_rows-dots.ensures in
-    let both = rows_counted a.order a.row a.count _ _ a.buffer.now _ c.none.ensures put.0 (put.1 (omega (arith, start.requires.3))) in record { value = both.0; buffer_after = both.1 }
+    let both = rows_counted a.order a.row a.count _ _ a.buffer.now _ c.none.ensures put.value (put.buffer_after (omega (arith, start.requires.3))) in record { value = both.0; buffer_after = both.1 }

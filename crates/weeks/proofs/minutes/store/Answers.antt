@@ -9,12 +9,12 @@ pub returns-in-Some : goal.returns-in-Some
 unfolding minute_from
 returns-in-Some c k =
     let a = c.args in
-    let given = c.fajr-1.given in
-    let fits : SFits w64 given.0.0 = search rules in
+    let given = c.in-Some in
+    let fits : SFits w64 given.seconds = search rules in
     let kept : read_back w64 c.whole_minutes.result ≡ c.whole_minutes.result = search rules in
-    let is = kept ∙ c.whole_minutes.ensures ∙ ap (λ (z : ℤ). floor_quot z 60) (read w64 given.0.0 fits) in
+    let is = kept ∙ c.whole_minutes.ensures ∙ ap (λ (z : ℤ). floor_quot z 60) (read w64 given.seconds fits) in
     let room = c.requires in
-    simp (given.1, ← is) (stored-minute a.minutes.now a.refused.now a.row room.1 _ room.0 k)
+    simp (given.is, ← is) (stored-minute a.minutes.now a.refused.now a.row room.1 _ room.0 k)
 
 pub returns-in-Nothing : goal.returns-in-Nothing
 unfolding minute_from

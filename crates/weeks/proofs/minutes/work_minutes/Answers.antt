@@ -5,22 +5,6 @@ use Rattle.schedule.specs.RowSuns.{next_row_suns_of}
 use Rattle.weeks.specs.{Kept.minute_at, Report.row_minute}
 use Rattle.weeks.proofs.MinuteLaws.{Run, row_done}
 use Rattle.weeks.proofs.minutes.work_minutes.Goals as goal
-use Rattle.weeks.proofs.minutes.work_minutes.Goals.{After-store, At-loop-row}
-
--- after the row that is stored
-stored : (c : After-store)
-    → let order = c.args.order in
-    (k : ℕ) → k < c.loop-row.row + 1
-    → minute_at c.store.new.1.1.0 c.store.new.1.1.1.0 k ≡ row_minute order k
-stored c = search row_done
-
--- the arrays keep their lengths
-long : (c : After-store) → (length c.store.new.1.1.0 ≡ 400) × (length c.store.new.1.1.1.0 ≡ 400)
-long c = let l = c.loop-row.invariant.long in (c.store.kept.1.1.0 ∙ l.0, c.store.kept.1.1.1.0 ∙ l.1)
-
--- an order has few rows, so every number here fits
-few : (c : At-loop-row) → c.loop-row.row < 400
-few c = omega (arith, c.loop-row.invariant.within, c.requires.0.rows.1)
 
 pub loop-row-init : goal.loop-row-init
 loop-row-init c =
@@ -33,13 +17,19 @@ loop-row-init c =
     }
 
 pub overflow_cast-row : goal.overflow_cast-row
-overflow_cast-row c = omega (arith, few c)
+overflow_cast-row c =
+    let few : c.loop-row.row < 400 = omega (arith, c.loop-row.invariant.within, c.requires.0.rows.1) in
+    omega arith
 
 pub store-requires : goal.store-requires
-store-requires c = search (few, rules)
+store-requires c =
+    let few : c.loop-row.row < 400 = omega (arith, c.loop-row.invariant.within, c.requires.0.rows.1) in
+    (omega (arith, c.loop-row.invariant.long.0), omega (arith, c.loop-row.invariant.long.1))
 
 pub overflow_add-row : goal.overflow_add-row
-overflow_add-row c = omega (arith, few c)
+overflow_add-row c =
+    let few : c.loop-row.row < 400 = omega (arith, c.loop-row.invariant.within, c.requires.0.rows.1) in
+    omega arith
 
 pub shape_of-minutes-then-row-order : goal.shape_of-minutes-then-row-order
 shape_of-minutes-then-row-order c = cc
@@ -48,21 +38,25 @@ pub shape_of-refused-then-row-order : goal.shape_of-refused-then-row-order
 shape_of-refused-then-row-order c = cc
 
 pub returns-then-row-order : goal.returns-then-row-order
-returns-then-row-order c k h = stored c k (omega (arith, c.if-row-order.true))
+returns-then-row-order c k h =
+    let l = c.loop-row in
+    let put : (k : ℕ) → k < l.row + 1 → minute_at c.store.new.minutes c.store.new.refused k ≡ row_minute c.args.order k =
+    row_done c.args.order c.requires.0 l.minutes _ l.refused _ l.suns l.row l.invariant _ c.fajr.ensures c.store.ensures in
+    put k (omega (arith, c.if-row-order.true))
 
 pub loop-row-smaller : goal.loop-row-smaller
 loop-row-smaller c = omega (arith, c.loop-row.invariant.within)
 
 pub loop-row-preserved : goal.loop-row-preserved
 loop-row-preserved c =
-    let Stored-row = c in
-    let l = Stored-row.loop-row in
-    let start = Stored-row in
-    let o = start.args.order in
+    let l = c.loop-row in
+    let put : (k : ℕ) → k < l.row + 1 → minute_at c.store.new.minutes c.store.new.refused k ≡ row_minute c.args.order k =
+    row_done c.args.order c.requires.0 l.minutes _ l.refused _ l.suns l.row l.invariant _ c.fajr.ensures c.store.ensures in
+    let o = c.args.order in
     let next = c.next-suns.ensures ∙ ap (next_row_suns_of o.setting) l.invariant.state in
     record {
       within = c.if-row-order.false;
-      state = next ∙ next-state o start.requires.0 l.row l.invariant.within;
-      long = long Stored-row;
-      done = stored Stored-row;
+      state = next ∙ next-state o c.requires.0 l.row l.invariant.within;
+      long = (c.store.auto.minutes ∙ l.invariant.long.0, c.store.auto.refused ∙ l.invariant.long.1);
+      done = put;
     }

@@ -1,7 +1,6 @@
 use Rattle.prelude.proofs.Logic.{◌≡◌, ap, ◌∙◌, ℕ, ◌+◌, ◌-◌, ◌<◌, arith, length, rules}
 use Rattle.days.proofs.RowStates.{first-state, next-state}
 use Rattle.schedule.specs.RowSuns.{next_row_suns_of}
-use Rattle.weeks.specs.{Kept.minuteAt, Report.rowMinute}
 use Rattle.weeks.proofs.MinuteLaws.{Run, row_done}
 use Rattle.weeks.proofs.minutes.work_minutes.Given as goal
 

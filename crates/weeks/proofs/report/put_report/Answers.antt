@@ -14,8 +14,8 @@ returns c =
     let a = c.args in
     let work = c.work_minutes in
     let put = c.put_windows.ensures in
-    let same = report-same (minute_at work.new.1.0 work.new.1.1.0) (row_minute a.order) a.order.rows work.ensures in
+    let same = report-same (minute_at work.new.minutes work.new.refused) (row_minute a.order) a.order.rows work.ensures in
     record {
-      value = rw same at put.0;
-      buffer_after = rw same at put.1;
+      value = rw same at put.value;
+      buffer_after = rw same at put.buffer_after;
     }
