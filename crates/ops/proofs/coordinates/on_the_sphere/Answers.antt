@@ -5,11 +5,11 @@ pub returns : goal.returns
 unfolding declination_of right_ascension_of
 returns c =
     simp (
-    c.unwound.ensures,
-    c.from_radians-right_ascension.ensures,
-    c.atan2.ensures,
-    c.from_radians-declination.ensures,
-    c.asin.ensures,
-    c.sincos-along.ensures,
-    c.sincos-tilt.ensures,
+      c.unwound.ensures,
+      c.from_radians-right_ascension.ensures,
+      c.atan2.ensures,
+      c.from_radians-declination.ensures,
+      c.asin.ensures,
+      c.sincos-along.ensures,
+      c.sincos-tilt.ensures,
     )

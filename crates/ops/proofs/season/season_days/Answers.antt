@@ -1,4 +1,4 @@
-use Rattle.prelude.proofs.Logic.{sym, rules}
+use Rattle.prelude.proofs.Logic.{sym}
 use Rattle.float64.proofs.Floats.{round, of_bits, dec}
 use Rattle.ops.specs.Season.{days_by_rule}
 use Rattle.ops.proofs.season.season_days.Goals as goal

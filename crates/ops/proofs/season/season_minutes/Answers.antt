@@ -1,4 +1,3 @@
-use Rattle.prelude.proofs.Logic.{rules}
 use Rattle.ops.proofs.season.season_minutes.Goals as goal
 
 pub returns : goal.returns

@@ -1,6 +1,5 @@
 use Rattle.float64.proofs.Floats.{round, of_bits, dec}
 use Rattle.ops.specs.Season.{more_minutes, twilight_adjustment_values_of}
-use Rattle.prelude.proofs.Logic.{rules}
 use Rattle.ops.proofs.season.twilight_adjustment_values.Goals as goal
 
 pub returns-in-Morning : goal.returns-in-Morning

@@ -1,5 +1,5 @@
 -- If minutes and seconds are between 0 and 60, the short way gives the nearest minute (`NearestMinute`).
-use Rattle.prelude.proofs.Logic.{sym, rules}
+use Rattle.prelude.proofs.Logic.{sym}
 use lib.Ieee.{round, of_bits}
 use Rattle.float64.specs.Ops.{dec}
 use Rattle.solar.specs.Setting.{minute_of}

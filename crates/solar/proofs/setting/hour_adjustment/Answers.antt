@@ -1,6 +1,5 @@
 use Rattle.float64.proofs.Floats.{round, of_bits, dec}
 use Rattle.solar.specs.Setting.{hour_adjustment_of}
-use Rattle.prelude.proofs.Logic.{rules}
 use Rattle.solar.proofs.setting.hour_adjustment.Goals as goal
 
 pub returns-then-calculated_hours : goal.returns-then-calculated_hours

@@ -1,4 +1,3 @@
-use Rattle.prelude.proofs.Logic.{rules}
 use lib.Ieee.{round, of_bits}
 use Rattle.float64.specs.Ops.{dec}
 use Rattle.solar.specs.Setting.{minute_of}

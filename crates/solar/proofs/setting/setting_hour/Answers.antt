@@ -1,4 +1,4 @@
-use Rattle.prelude.proofs.Logic.{sym, rules}
+use Rattle.prelude.proofs.Logic.{sym}
 use Rattle.float64.proofs.Floats.{round, of_bits, dec}
 use Rattle.solar.specs.Setting.{setting_hour_of}
 use Rattle.solar.proofs.setting.setting_hour.Goals as goal

@@ -1,5 +1,4 @@
 use Rattle.solar.specs.Times.{solar_hour_of}
-use Rattle.prelude.proofs.Logic.{rules}
 use Rattle.solar.proofs.times.solar_hour.Goals as goal
 
 pub returns-in-Stops : goal.returns-in-Stops
