@@ -1,5 +1,5 @@
 -- The suns that roll from row to row are those that each row would work by itself. Assumes nothing.
-use Rattle.prelude.proofs.Logic.{◌≡◌, sym, ap, subst, ◌∙◌, true, false, ◌+◌, ◌≤◌, ◌<◌, arith, cases}
+use Rattle.prelude.proofs.Logic.{◌≡◌, sym, ap, subst, ◌∙◌, true, ◌+◌, ◌≤◌, ◌<◌, arith, cases}
 use Rattle.calendar.proofs.Calendar.{tomorrow_of, from_of, exists_of, back, year_after}
 use Rattle.calendar.proofs.Successors.{tomorrow-is, tomorrow-exists}
 use Rattle.calendar.specs.Answers.{yesterday_of}

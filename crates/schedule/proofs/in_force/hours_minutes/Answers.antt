@@ -1,6 +1,5 @@
 use Rattle.float64.proofs.Floats.{round, of_bits, dec}
 use Rattle.schedule.specs.InForce.{hours_minutes_of}
-use Rattle.prelude.proofs.Logic.{rules}
 use Rattle.schedule.proofs.in_force.hours_minutes.Goals as goal
 
 pub returns : goal.returns

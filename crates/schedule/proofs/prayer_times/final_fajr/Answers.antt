@@ -1,4 +1,4 @@
-use Rattle.prelude.proofs.Logic.{ap, ◌∙◌, lit≤, rules}
+use Rattle.prelude.proofs.Logic.{ap, ◌∙◌, lit≤}
 use Rattle.models.specs.declared.prayer.Prayer.TheVariants.{Fajr}
 use Rattle.schedule.proofs.Schedule.{final_of, of_near}
 use Rattle.schedule.proofs.prayer_times.final_fajr.Goals as goal

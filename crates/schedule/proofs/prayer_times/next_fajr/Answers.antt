@@ -1,5 +1,5 @@
 -- Tomorrow's Fajr from its own sun, a day later; the sum is small.
-use Rattle.prelude.proofs.Logic.{ap, ◌∙◌, lit≤, ℤ, rules}
+use Rattle.prelude.proofs.Logic.{ap, ◌∙◌, lit≤, ℤ}
 use Rattle.integers.proofs.Held.{constant, held_sum, held_as, held_fits, stored, promised}
 use Rattle.calendar.specs.declared.dates.Date.{Date}
 use Rattle.models.specs.declared.prayer.Prayer.TheVariants.{Fajr}

@@ -1,5 +1,5 @@
 -- 0h of the date is added to each of the nine times; each sum fits an i64.
-use Rattle.prelude.proofs.Logic.{◌≡◌, ◌^◌, lit≤, ℤ, ◌+ℤ◌, rules, w64, SFits}
+use Rattle.prelude.proofs.Logic.{◌≡◌, ◌^◌, lit≤, ℤ, ◌+ℤ◌, w64, SFits}
 use Rattle.integers.proofs.Integers.{Near, read_back, held_fits, stored}
 use Rattle.schedule.proofs.Schedule.{started_of, on_start}
 use Rattle.schedule.proofs.prayer_times.started.Goals as goal

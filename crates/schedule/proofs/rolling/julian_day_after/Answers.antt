@@ -1,7 +1,6 @@
 -- In these years the next Julian Day is 1.0 more (`julian_tomorrow`); a date whose tomorrow has another day exists.
-use Rattle.prelude.proofs.Logic.{◌≡◌, sym, ap, ◌∙◌}
+use Rattle.prelude.proofs.Logic.{sym, ap, ◌∙◌}
 use Rattle.float64.proofs.Floats.{Float, ◌+ᶠ◌, round, of_bits, dec}
-use Rattle.calendar.specs.Answers.{tomorrow_of}
 use Rattle.calendar.specs.declared.dates.Date.{Date}
 use Rattle.julian.proofs.JulianLaws.{julian_tomorrow}
 use Rattle.julian.specs.Julian.{date_julian_day_of}

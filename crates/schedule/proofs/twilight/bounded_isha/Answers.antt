@@ -1,8 +1,7 @@
 -- The earlier of the angle's time and the night bound, or a seventh of the night; each is small.
-use Rattle.prelude.proofs.Logic.{◌≡◌, ap, ◌∙◌, ◌+◌, ◌^◌, lit≤, ℤ, ◌+ℤ◌, rules, w32, w64, SFits}
-use Rattle.integers.proofs.Integers.{read_back, wide, Held, of_wide, held_sum, held_by, held_as, held_fits, stored, asked, promised}
-use Rattle.night_portions.specs.Portions.{seventh_of}
-use Rattle.schedule.proofs.Schedule.{night_of, earlier_of, own_of, isha_bound_of, bounded_isha_of, both, of_near, held_seventh}
+use Rattle.prelude.proofs.Logic.{◌≡◌, ap, ◌∙◌, lit≤, ℤ, rules, w32, w64, SFits}
+use Rattle.integers.proofs.Integers.{read_back, wide, of_wide, held_sum, held_by, held_as, held_fits, stored, asked, promised}
+use Rattle.schedule.proofs.Schedule.{earlier_of, own_of, isha_bound_of, bounded_isha_of, both, of_near, held_seventh}
 use Rattle.schedule.proofs.twilight.bounded_isha.Goals as goal
 
 pub overflow_cast-by_night : goal.overflow_cast-by_night
@@ -19,8 +18,7 @@ pub own-requires : goal.own-requires
 own-requires c =
     let f : SFits w32 c.args.today.sunset = search rules in
     let k : read_back w64 c.seventh.result ≡ c.seventh.result = search rules in
-    let by-night = held_sum (of_wide _ f) (held_by (k ∙ c.seventh.ensures) (held_seventh (of_near c.night-night.ensures (lit≤ tt)))) in
-    (
+    let by-night = held_sum (of_wide _ f) (held_by (k ∙ c.seventh.ensures) (held_seventh (of_near c.night-night.ensures (lit≤ tt)))) in (
       asked (stored by-night (lit≤ tt)) (lit≤ tt),
       asked (of_near c.isha_bound-bound.ensures (lit≤ tt)) (lit≤ tt),
     )

@@ -1,6 +1,5 @@
 use Rattle.float64.proofs.Floats.{round, of_bits, dec}
 use Rattle.schedule.specs.Twilight.{by_seventh_of}
-use Rattle.prelude.proofs.Logic.{rules}
 use Rattle.schedule.proofs.twilight.by_seventh.Goals as goal
 
 pub returns-then-latitude : goal.returns-then-latitude

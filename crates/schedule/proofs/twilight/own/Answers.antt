@@ -1,4 +1,4 @@
-use Rattle.prelude.proofs.Logic.{sym, ap, ◌∙◌, lit≤, rules}
+use Rattle.prelude.proofs.Logic.{sym, ap, ◌∙◌, lit≤}
 use Rattle.integers.proofs.Held.{of_i64, held_as, promised}
 use Rattle.schedule.proofs.Schedule.{or_of, own_of, of_near}
 use Rattle.schedule.proofs.twilight.own.Goals as goal

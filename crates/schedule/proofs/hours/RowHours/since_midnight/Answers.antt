@@ -1,4 +1,3 @@
-use Rattle.prelude.proofs.Logic.{rules}
 use Rattle.schedule.proofs.Schedule.{since_from, since_of, NearIn}
 use Rattle.schedule.proofs.hours.RowHours.since_midnight.Goals as goal
 

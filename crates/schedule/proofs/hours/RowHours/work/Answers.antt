@@ -1,4 +1,4 @@
-use Rattle.prelude.proofs.Logic.{sym, subst, rules}
+use Rattle.prelude.proofs.Logic.{sym, subst}
 use Rattle.schedule.proofs.Schedule.{started_in, NearIn}
 use Rattle.schedule.proofs.hours.RowHours.work.Goals as goal
 

@@ -1,5 +1,4 @@
 use Rattle.schedule.specs.Hours.{suns_of}
-use Rattle.prelude.proofs.Logic.{rules}
 use Rattle.schedule.proofs.hours.Suns.new.Goals as goal
 
 pub returns-in-Lacks : goal.returns-in-Lacks

@@ -1,5 +1,5 @@
 -- Date, place and parameters are tested in this order. With all three, the result is the first row of a run (`first_row`).
-use Rattle.prelude.proofs.Logic.{ap, rules}
+use Rattle.prelude.proofs.Logic.{ap}
 use Rattle.schedule.specs.declared.prayer_schedule.Calculated.TheVariants.{Some}
 use Rattle.schedule.specs.Builder.{calculated_from}
 use Rattle.schedule.proofs.RowSunsLaws.{first_row}

@@ -1,8 +1,5 @@
-use Rattle.prelude.proofs.Logic.{◌≡◌, refl, sym, ap, ◌∙◌, ◌≤◌, arith, ℤ, rules, w64}
-use Rattle.integers.proofs.Ranges.{read_back}
-use Rattle.models.specs.Numbers.{prayer_of}
-use Rattle.schedule.proofs.Schedule.{Some, last_of, ahead_of, time_of}
-use Rattle.schedule.proofs.Due as due
+use Rattle.prelude.proofs.Logic.{◌≡◌, ◌≤◌}
+use Rattle.schedule.proofs.Schedule.{last_of}
 use Rattle.schedule.proofs.prayer_times.PrayerTimes.current_time.Given as goal
 
 abbrev pub invariant-loop-n : goal.invariant-loop-n

@@ -1,4 +1,4 @@
-use Rattle.prelude.proofs.Logic.{sym, ap, ◌∙◌, rules}
+use Rattle.prelude.proofs.Logic.{sym, ap, ◌∙◌}
 use Rattle.schedule.proofs.Schedule.{following_current_of, Some}
 use Rattle.schedule.proofs.prayer_times.PrayerTimes.next.Goals as goal
 
