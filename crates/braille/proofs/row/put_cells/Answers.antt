@@ -22,7 +22,6 @@ returns c =
     let at_row = at-put in
     let t = at_row in
     let row = at_row.row_cells-cells.ensures ∙ ap (row_cells t.args.date t.args.worked) (read w32 t.args.clock t.ranges.clock) in
-    
     record {
       value = c.dots.ensures ∙ ap dots_of row;
       buffer_after = rw row at at-put.put.ensures;

@@ -26,7 +26,6 @@ pub returns-in-Says : goal.returns-in-Says
 unfolding appended_of
 returns-in-Says c =
     let read = c.in-Says.is in
-    
     let turn = sym c.new_in_turn.ensures ∙ c.if-new_in_turn.false in
     record { value = simp (read, turn) c.refuse.ensures; log_after = simp (read, turn); second_after = simp (read, turn) }
 

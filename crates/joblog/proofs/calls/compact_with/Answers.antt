@@ -13,7 +13,6 @@ returns-then-open_pages-second c =
     let n = with_length a.s a.tag a.page in
     let o = c.open_pages.ensures in
     let h : length a.second.now < length text = omega (arith, c.if-open_pages-second.true) in
-    
     record {
       value = simp (lt-leb _ _ h) c.refuse.ensures;
       second_after = sym (put_none a.second.now text h);
@@ -40,7 +39,7 @@ returns c =
     let n = with_length a.s a.tag a.page in let m = compacted_length a.s in
     let o = at-if.open_pages.ensures in let e = first.ensures.value in
     let h : length text ≤ length a.second.now = omega (arith, at-if.if-open_pages-second.false) in
-    let k : at + 5 ≡ length text = omega arith in 
+    let k : at + 5 ≡ length text = omega arith in
     record {
       value = simp (c.answer.ensures, c.after.ensures, c.new_record.ensures, le-leb _ _ h, k);
       second_after = put_with a.s a.tag a.page at a.second.now first.new.buffer at-record.put_record.new.buffer

@@ -8,7 +8,6 @@ pub returns-then-used-log : goal.returns-then-used-log
 unfolding restart_of
 returns-then-used-log c =
     let over = lt-leb _ _ c.if-used-log.true in
-    
     record {
       value = simp (sym c.refuse.ensures, over);
       second_after = simp over;
@@ -24,7 +23,6 @@ returns c =
     let a = at-scan.args in
     let any = restarted_any read.result a.log.now a.count a.second.now in
     let w = c.restart_read.ensures in
-    
     let within = le-leb a.used (length a.log.now) (omega arith) in let says = read.ensures.0 in
     record {
       value = simp (within, ← says) (w.value ∙ any.0);

@@ -17,7 +17,6 @@ returns-then-between c =
     let written = c.compact.ensures in let at-if = c.before.before.before.before in
     let inside = at-if.between.ensures in let taken = at-if.if-between.true in
     let read = at-if.in-Says.is in
-    
     record {
       value = simp (sym written.value, sym inside, taken, read);
       second_after = simp (sym written.second_after, sym inside, taken, read);
@@ -28,7 +27,6 @@ unfolding restarted_of
 returns-in-Says c =
     let inside = c.between.ensures in
     let read = c.in-Says.is in
-    
     record {
       value = simp (sym c.refuse.ensures, sym inside, c.if-between.false, read);
       second_after = simp (sym inside, c.if-between.false, read);

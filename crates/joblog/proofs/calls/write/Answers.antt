@@ -8,7 +8,7 @@ unfolding logged_of
 returns-then-log-at-ge5 c =
     let at-put = c.before.before.before.before.before in let at-if = at-put.before.before in
     let a = at-if.args in let w = at-if.whole-at.ensures in
-    let room = le-leb (whole_of a.used + 5) (length a.log.now) (omega (arith, at-if.if-log-at-ge5.true)) in 
+    let room = le-leb (whole_of a.used + 5) (length a.log.now) (omega (arith, at-if.if-log-at-ge5.true)) in
     record {
       value = simp (c.answer.ensures, c.after.ensures, c.new_record.ensures, w, room);
       log_after = simp (at-put.put_record.ensures, w, room);
@@ -20,7 +20,6 @@ unfolding logged_of
 returns c =
     let compacted = c.compact_with in let at-if = c.before.before.before.before in
     let a = at-if.args in let w = at-if.whole-at.ensures in
-    
     let full = lt-leb (whole_of a.used + 5) (length a.log.now) (omega (arith, at-if.if-log-at-ge5.false)) in
     record {
       value = simp full compacted.ensures.value;

@@ -52,7 +52,6 @@ returns c =
     let l = at-loop.loop-page in let n = compacted_length a.s in
     let k : l.page - a.s.finished ≡ a.s.sent - a.s.finished = omega arith in
     let whole = put_whole a.buffer.now first.new.buffer l.buffer a.s l.page first.ensures l.invariant.5 k start.requires.2 in
-    
     record {
       value = omega arith;
       buffer_after = whole;

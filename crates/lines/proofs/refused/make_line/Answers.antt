@@ -34,5 +34,5 @@ returns c =
     let m = c.put_number-end.ensures in
     let n = c.put_number-end-2.ensures in
     let t = line_made a.line.now a.whose.now a.word.now a.refusal p.0 p.1 p.2 _ _ _ _ _ _
-            c.put.ensures m.value m.line_after n.value n.line_after c.put-2.ensures in
+    c.put.ensures m.value m.line_after n.value n.line_after c.put-2.ensures in
     record { value = t.0; line_after = t.1 }

@@ -15,7 +15,7 @@ pub returns : goal.returns
 returns c =
     let a = c.args in
     let d = c.put_decimal.ensures in
-    let p = c.requires in 
+    let p = c.requires in
     record {
       value = number_end a.word.now a.at a.n _ d.value;
       line_after = number_made a.line.now _ _ a.word.now a.at a.n p.1

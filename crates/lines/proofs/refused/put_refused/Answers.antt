@@ -28,7 +28,6 @@ returns c =
     let m = c.make_line-end in
     let t =
     cut_front (refused_text a.whose.now a.word.now a.refusal) _ m.new.line m.result m.ensures.value m.ensures.line_after in
-    
     record {
       value = m.ensures.value;
       buffer_after = rw t at c.put.ensures;

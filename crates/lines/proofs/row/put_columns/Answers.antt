@@ -9,7 +9,6 @@ pub returns-then-at-buffer : goal.returns-then-at-buffer
 returns-then-at-buffer c =
     let a = c.args in
     let n = since_length a.date a.times.now in
-    
     record {
       value = sym n;
       buffer_after = no_room a.buffer.now (row_since a.date a.times.now) a.at (omega (arith, c.if-at-buffer.true));
@@ -19,7 +18,6 @@ pub returns-then-bytes-buffer : goal.returns-then-bytes-buffer
 returns-then-bytes-buffer c =
     let a = c.args in
     let n = since_length a.date a.times.now in
-    
     record {
       value = sym n;
       buffer_after = no_room a.buffer.now (row_since a.date a.times.now) a.at (omega (arith, c.if-bytes-buffer.true, c.if-at-buffer.false));
@@ -31,7 +29,7 @@ returns c =
     let a = t.args in
     let n = since_length a.date a.times.now in
     let k = a.at + (10 + 12 * length a.times.now + 1) - a.at in
-    let part : List ℕ → List ℕ = λ text. take a.at a.buffer.now ++ (text ++ drop k (drop a.at a.buffer.now)) in 
+    let part : List ℕ → List ℕ = λ text. take a.at a.buffer.now ++ (text ++ drop k (drop a.at a.buffer.now)) in
     record {
       value = sym n;
       buffer_after = ap part c.fill_row.ensures ∙ filled_put a.buffer.now (row_since a.date a.times.now) a.at k

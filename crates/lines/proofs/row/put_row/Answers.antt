@@ -13,7 +13,7 @@ returns-then-ramadan c =
     let k : read_back w64 i.result ≡ i.result = search rules in
     let f : SFits w64 a.times.fajr = search rules in
     let is : c.ten-ten.result ≡ imsak_of a.ramadan.imsak a.times.fajr ∷ nine_of a.times
-        = c.ten-ten.ensures ∙ ap (λ (z : ℤ). z ∷ nine_of a.times) (k ∙ i.ensures ∙ ap (imsak_of a.ramadan.imsak) (to_z-of_z f)) in
+    = c.ten-ten.ensures ∙ ap (λ (z : ℤ). z ∷ nine_of a.times) (k ∙ i.ensures ∙ ap (imsak_of a.ramadan.imsak) (to_z-of_z f)) in
     record { value = simp c.if-ramadan.true (rw is at put.value); buffer_after = simp c.if-ramadan.true (rw is at put.buffer_after) }
 
 pub returns : goal.returns
@@ -25,5 +25,5 @@ returns c =
     let k : read_back w64 i.result ≡ i.result = search rules in
     let f : SFits w64 a.times.fajr = search rules in
     let is : c.ten-ten.result ≡ imsak_of a.ramadan.imsak a.times.fajr ∷ nine_of a.times
-        = c.ten-ten.ensures ∙ ap (λ (z : ℤ). z ∷ nine_of a.times) (k ∙ i.ensures ∙ ap (imsak_of a.ramadan.imsak) (to_z-of_z f)) in
+    = c.ten-ten.ensures ∙ ap (λ (z : ℤ). z ∷ nine_of a.times) (k ∙ i.ensures ∙ ap (imsak_of a.ramadan.imsak) (to_z-of_z f)) in
     record { value = simp c.if-ramadan.false (rw is at put.value); buffer_after = simp c.if-ramadan.false (rw is at put.buffer_after) }

@@ -11,7 +11,6 @@ pub returns-then-words-eq0 : goal.returns-then-words-eq0
 returns-then-words-eq0 c =
     let a = c.args in let w = c.put_words-words.ensures in let z = sym w.value ∙ c.if-words-eq0.true in
     let e = sentence_unknown _ _ (unknown_by_words _ _ z) in
-    
     record {
       value = sym (ap length e);
       line_after = w.line_after ∙ ap (λ (t : List ℕ). front_of t a.line.now) (empty (words_of _ a.place) z ∙ sym e);

@@ -41,7 +41,6 @@ returns-then-not-ends_in_colon c =
     let at-put = c.before.before in let at-end = at-put.before.before.before in let a = at-end.args in
     let e = colon c.before ∙ c.if-not-ends_in_colon.true in
     let w = words_of_text a.number _ _ at-put.put.new.buffer e (first at-put) in
-    
     record {
       value = (text at-end).ends ∙ w.0;
       line_after = w.1;
@@ -67,7 +66,6 @@ returns c =
     let long : length a.line.now ≡ 100 = search rules in
     let w = words_of_both _ _ _ at-put.put.new.buffer c.put-2.new.buffer e long (first at-put)
     (rw (m.text, t.ends) at c.put-2.ensures) in
-    
     record {
       value = omega arith;
       line_after = w.1;

@@ -5,8 +5,8 @@ use Rattle.sentences.proofs.reading.lengthen.Goals as goal
 pub returns-then-not-is_digit : goal.returns-then-not-is_digit
 returns-then-not-is_digit c =
     let d = c.is_digit in (
-    longer_other c.args.v c.args.b (sym d.ensures ∙ c.if-not-is_digit.true),
-    omega arith,
+      longer_other c.args.v c.args.b (sym d.ensures ∙ c.if-not-is_digit.true),
+      omega arith,
     )
 
 pub returns-then-sum-lt-NONE : goal.returns-then-sum-lt-NONE

@@ -9,7 +9,6 @@ returns-then-length-eq0 c =
     let at-put = c.before.before in let a = at-put.args in
     let k = unknown_by_sentence a.number a.place (sym at-put.put_sentence-length.ensures.value ∙ c.if-length-eq0.true) in
     let w = sym (writes_unknown a.number a.place a.buffer.now k) in
-    
     record {
       value = c.refuse.ensures ∙ ap (λ (call : SentenceCall). call.answer) w;
       buffer_after = ap (λ (call : SentenceCall). call.buffer) w;
@@ -21,7 +20,6 @@ returns-then-length-buffer c =
     let k = known_by_sentence a.number a.place (λ z. c.if-length-eq0.false (e ∙ z)) in
     let over = subst (λ (m : ℕ). length a.buffer.now < m) e c.if-length-buffer.true in
     let w = sym (writes_no_room a.number a.place a.buffer.now k over) in
-    
     record {
       value = c.refuse-then-length-buffer.ensures ∙ ap (λ (call : SentenceCall). call.answer) w;
       buffer_after = ap (λ (call : SentenceCall). call.buffer) w;

@@ -16,7 +16,7 @@ returns c =
     let a = t.args in
     let h = c.put_header.ensures in
     let n = header_short a.ramadan in
-    let l = head_length a.ramadan a.town.now in 
+    let l = head_length a.ramadan a.town.now in
     record {
       value = omega (arith, h.value);
       buffer_after = head_made a.ramadan a.town.now a.buffer.now _ _ (omega (arith, t.requires.0, t.requires.1))
