@@ -6,8 +6,8 @@ use Rattle.sentences.proofs.sentence.write_sentence.Goals as goal
 
 pub returns-then-length-eq0 : goal.returns-then-length-eq0
 returns-then-length-eq0 c =
-    let at-put = c.before.before in let a = at-put.args in
-    let k = unknown_by_sentence a.number a.place (sym at-put.put_sentence-length.ensures.value ∙ c.if-length-eq0.true) in
+    let a = c.args in
+    let k = unknown_by_sentence a.number a.place (sym c.put_sentence-length.ensures.value ∙ c.if-length-eq0.true) in
     let w = sym (writes_unknown a.number a.place a.buffer.now k) in
     record {
       value = c.refuse.ensures ∙ ap (λ (call : SentenceCall). call.answer) w;
@@ -16,7 +16,7 @@ returns-then-length-eq0 c =
 
 pub returns-then-length-buffer : goal.returns-then-length-buffer
 returns-then-length-buffer c =
-    let at-put = c.before.before.before in let a = at-put.args in let e = at-put.put_sentence-length.ensures.value in
+    let a = c.args in let e = c.put_sentence-length.ensures.value in
     let k = known_by_sentence a.number a.place (λ z. c.if-length-eq0.false (e ∙ z)) in
     let over = subst (λ (m : ℕ). length a.buffer.now < m) e c.if-length-buffer.true in
     let w = sym (writes_no_room a.number a.place a.buffer.now k over) in
