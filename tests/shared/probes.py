@@ -6,7 +6,7 @@ from . import ROOT
 from .floats import bits
 from .library import load
 
-STRUCT = re.compile(r"^#\[repr\(C\)\]\npub struct (\w+) \{\n(.*?)^\}", re.M | re.S)
+STRUCT = re.compile(r"^#\[repr\(C\)\]\n(?:#\[derive[^\n]*\]\n)?pub struct (\w+) \{\n(.*?)^\}", re.M | re.S)
 FIELD = re.compile(r"^    pub (\w+): (\w+),$", re.M)
 EXPORT = re.compile(r'^pub extern "C" fn (probe_\w+)\((.*?)\) -> (\w+)$', re.M | re.S)
 
