@@ -6,27 +6,8 @@ ghost use Rattle.days.specs.Calls.{instant_of, instant_fits, work_at_of, prayer_
 use super::day::work_day;
 use models::prayer::Prayer;
 use refusals::{INSTANT_BEYOND, NONE_IN_FORCE, Refusal};
-use schedule::in_force::{Current, HoursMinutes, IN_SECOND, Instant, Remaining};
-use schedule::prayer_times::{PrayerTimes, Worked};
-
-// None in force is an answer, and no refusal.
-#[derive(Clone, Copy)]
-pub enum InForce {
-    Prayer(Current),
-    Refused(Refusal),
-}
-
-#[derive(Clone, Copy)]
-pub enum NextPrayer {
-    Prayer(Prayer),
-    Refused(Refusal),
-}
-
-#[derive(Clone, Copy)]
-pub enum TimeUntil {
-    Time(HoursMinutes),
-    Refused(Refusal),
-}
+use schedule::in_force::{HoursMinutes, IN_SECOND, Instant};
+use schedule::prayer_times::PrayerTimes;
 
 // The instants that 10 does not refuse.
 const LEAST_SECONDS: i64 = -1000000000000;
@@ -48,13 +29,13 @@ fn instant_fits(seconds: i64, nanoseconds: u32) -> bool
 }
 
 // The times of the row's day, for an instant that is in range.
-fn work_at(order: &[u8], row: u32, instant: Instant) -> Worked
+fn work_at(order: &[u8], row: u32, instant: Instant) -> Result<PrayerTimes, Refusal>
     ensures { result ≡ work_at_of order.now row instant }
 {
     if instant_fits(instant.seconds, instant.nanoseconds) {
         return work_day(order, row);
     }
-    Worked::Refused(Refusal::new(INSTANT_BEYOND, 0))
+    Err(Refusal::new(INSTANT_BEYOND, 0))
 }
 
 // Next or remaining asked while no prayer is in force.
@@ -64,50 +45,50 @@ fn none_in_force() -> Refusal
     Refusal::new(NONE_IN_FORCE, 0)
 }
 
-pub fn prayer_at(order: &[u8], row: u32, instant: Instant) -> InForce
+pub fn prayer_at(order: &[u8], row: u32, instant: Instant) -> Result<Option<Prayer>, Refusal>
     ensures { result ≡ prayer_at_of order.now row instant }
 {
     match work_at(order, row, instant) {
-        Worked::Times(times) => {
+        Ok(times) => {
             let current = times.current_time(instant);
-            InForce::Prayer(current)
+            Ok(current)
         }
-        Worked::Refused(refusal) => InForce::Refused(refusal),
+        Err(refusal) => Err(refusal),
     }
 }
 
-fn next_in(next: Current) -> NextPrayer
+fn next_in(next: Option<Prayer>) -> Result<Prayer, Refusal>
     ensures { result ≡ next_prayer_in next }
 {
     match next {
-        Current::Some(prayer) => NextPrayer::Prayer(prayer),
-        Current::Nothing => NextPrayer::Refused(none_in_force()),
+        Some(prayer) => Ok(prayer),
+        None => Err(none_in_force()),
     }
 }
 
-pub fn next_at(order: &[u8], row: u32, instant: Instant) -> NextPrayer
+pub fn next_at(order: &[u8], row: u32, instant: Instant) -> Result<Prayer, Refusal>
     ensures { result ≡ next_at_of order.now row instant }
 {
     match work_at(order, row, instant) {
-        Worked::Times(times) => next_in(times.next(instant)),
-        Worked::Refused(refusal) => NextPrayer::Refused(refusal),
+        Ok(times) => next_in(times.next(instant)),
+        Err(refusal) => Err(refusal),
     }
 }
 
-fn until_in(remaining: Remaining) -> TimeUntil
+fn until_in(remaining: Option<HoursMinutes>) -> Result<HoursMinutes, Refusal>
     ensures { result ≡ time_until_in remaining }
 {
     match remaining {
-        Remaining::Some(time) => TimeUntil::Time(time),
-        Remaining::Nothing => TimeUntil::Refused(none_in_force()),
+        Some(time) => Ok(time),
+        None => Err(none_in_force()),
     }
 }
 
-pub fn remaining_at(order: &[u8], row: u32, instant: Instant) -> TimeUntil
+pub fn remaining_at(order: &[u8], row: u32, instant: Instant) -> Result<HoursMinutes, Refusal>
     ensures { result ≡ remaining_at_of order.now row instant }
 {
     match work_at(order, row, instant) {
-        Worked::Times(times) => until_in(times.time_remaining(instant)),
-        Worked::Refused(refusal) => TimeUntil::Refused(refusal),
+        Ok(times) => until_in(times.time_remaining(instant)),
+        Err(refusal) => Err(refusal),
     }
 }

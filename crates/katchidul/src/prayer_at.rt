@@ -4,9 +4,10 @@ ghost use Rattle.days.specs.Calls.{instant_of, next_at_of};
 ghost use Rattle.katchidul.specs.Exports.{prayer_answer_of, prayer_got, next_answer_of};
 ghost use Rattle.schedule.specs.InForce.{current_number_of};
 
-use days::in_force::{InForce, NextPrayer, next_at, prayer_at};
+use days::in_force::{next_at, prayer_at};
+use models::prayer::Prayer;
 use refusals::Refusal;
-use schedule::in_force::{Current, Instant};
+use schedule::in_force::Instant;
 
 #[repr(C)]
 #[derive(Clone, Copy)]
@@ -24,24 +25,24 @@ pub(crate) fn instant(seconds: i64, nanoseconds: u32) -> Instant
     }
 }
 
-fn current_number(current: Current) -> u32
+fn current_number(current: Option<Prayer>) -> u32
     ensures { result ≡ current_number_of current }
 {
     match current {
-        Current::Some(prayer) => prayer.number(),
-        Current::Nothing => 0,
+        Some(prayer) => prayer.number(),
+        None => 0,
     }
 }
 
-fn prayer_answer(answer: InForce) -> KatchidulPrayer
+fn prayer_answer(answer: Result<Option<Prayer>, Refusal>) -> KatchidulPrayer
     ensures { result ≡ prayer_answer_of answer }
 {
     match answer {
-        InForce::Prayer(current) => KatchidulPrayer {
+        Ok(current) => KatchidulPrayer {
             refusal: Refusal::none(),
             prayer: current_number(current),
         },
-        InForce::Refused(refusal) => KatchidulPrayer {
+        Err(refusal) => KatchidulPrayer {
             refusal: refusal,
             prayer: 0,
         },
@@ -59,15 +60,15 @@ pub fn katchidul_prayer_at(
     prayer_answer(prayer_at(order, row, instant(seconds, nanoseconds)))
 }
 
-fn next_answer(answer: NextPrayer) -> KatchidulPrayer
+fn next_answer(answer: Result<Prayer, Refusal>) -> KatchidulPrayer
     ensures { result ≡ next_answer_of answer }
 {
     match answer {
-        NextPrayer::Prayer(prayer) => KatchidulPrayer {
+        Ok(prayer) => KatchidulPrayer {
             refusal: Refusal::none(),
             prayer: prayer.number(),
         },
-        NextPrayer::Refused(refusal) => KatchidulPrayer {
+        Err(refusal) => KatchidulPrayer {
             refusal: refusal,
             prayer: 0,
         },

@@ -4,7 +4,7 @@ ghost use Rattle.days.specs.Calls.{instant_of, remaining_at_of};
 ghost use Rattle.katchidul.specs.Exports.{remaining_answer_of};
 
 use super::prayer_at::instant;
-use days::in_force::{TimeUntil, remaining_at};
+use days::in_force::remaining_at;
 use refusals::Refusal;
 use schedule::in_force::HoursMinutes;
 
@@ -15,15 +15,15 @@ pub struct KatchidulRemaining {
     pub time: HoursMinutes,
 }
 
-fn remaining_answer(answer: TimeUntil) -> KatchidulRemaining
+fn remaining_answer(answer: Result<HoursMinutes, Refusal>) -> KatchidulRemaining
     ensures { result ≡ remaining_answer_of answer }
 {
     match answer {
-        TimeUntil::Time(time) => KatchidulRemaining {
+        Ok(time) => KatchidulRemaining {
             refusal: Refusal::none(),
             time: time,
         },
-        TimeUntil::Refused(refusal) => KatchidulRemaining {
+        Err(refusal) => KatchidulRemaining {
             refusal: refusal,
             time: HoursMinutes {
                 hours: 0,

@@ -1,4 +1,5 @@
 -- What both readers return, from the fields that they checked and collected. Assumes nothing.
+use Rattle.std.specs.Prelude.{Err, Ok}
 use Rattle.prelude.proofs.Logic.{◌≡◌, sym, ap, ◌∙◌, List, [], ◌∷◌, ℕ, eqb, eq-eqb, ne_eqb, cases}
 use Rattle.fields.specs.declared.values.Checked.{Checked}
 use Rattle.fields.specs.Fields.{check_of}
@@ -7,7 +8,6 @@ use Rattle.fields.proofs.Collecting.{checked-refusal, checked-values}
 use Rattle.refusals.specs.declared.Refusal.{Refusal}
 use Rattle.refusals.specs.Refusals.{or_of}
 use Rattle.order.specs.declared.reading.Order.{Order}
-use Rattle.order.specs.declared.reading.Reading.TheVariants.{Read, Refused}
 use Rattle.order.specs.Reading.{order_of, first_of, checks_of, reading_of}
 
 -- two checks in a chain are one check
@@ -17,11 +17,11 @@ first_or a b rest o = cases (eqb a.number 0) (λ h. simp h) (λ h. simp h)
 
 -- one check alone
 module _ (r : Refusal) (o : Order) where
-  pub refused-alone : (r.number ≡ 0 → ⊥) → Refused r ≡ first_of (r ∷ []) o
+  pub refused-alone : (r.number ≡ 0 → ⊥) → Err r ≡ first_of (r ∷ []) o
   unfolding first_of
   refused-alone n = simp (ne_eqb _ _ n)
 
-  pub read-alone : r.number ≡ 0 → Read o ≡ first_of (r ∷ []) o
+  pub read-alone : r.number ≡ 0 → Ok o ≡ first_of (r ∷ []) o
   unfolding first_of
   read-alone p = simp (eq-eqb _ _ p)
 
@@ -29,7 +29,7 @@ module _ (s : List ℕ) (checked : Checked) (is_checked : checked ≡ checked_of
   broken : check_of s ≡ checked.refusal
   broken = sym (checked-refusal s checked is_checked)
 
-  pub by-fields : (checked.refusal.number ≡ 0 → ⊥) → Refused checked.refusal ≡ reading_of s
+  pub by-fields : (checked.refusal.number ≡ 0 → ⊥) → Err checked.refusal ≡ reading_of s
   unfolding reading_of first_of
   by-fields n = simp (broken, ne_eqb _ _ n)
 

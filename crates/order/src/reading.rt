@@ -49,12 +49,6 @@ pub struct Order {
     pub ramadan: Ramadan,
 }
 
-#[derive(Clone, Copy)]
-pub enum Reading {
-    Read(Order),
-    Refused(Refusal),
-}
-
 // Either form keeps a coordinate from being missing.
 fn is_given(fields: Fields, tag: u32) -> bool
     ensures { result ≡ is_given_of (has_in fields) tag }
@@ -150,7 +144,7 @@ fn wrong_start(ramadan: Ramadan, date: Date) -> Refusal
 }
 
 // Reads fields whose form is right. Both readers use it after they have collected them.
-pub(crate) fn answer(order: &[u8], fields: Fields) -> Reading
+pub(crate) fn answer(order: &[u8], fields: Fields) -> Result<Order, Refusal>
     ensures { result ≡ first_of (checks_of (values_in order.now fields)) (order_of (values_in order.now fields)) }
 {
     let record = record_in(order, fields);
@@ -159,28 +153,28 @@ pub(crate) fn answer(order: &[u8], fields: Fields) -> Reading
         .or(out_of_range(order, fields, record.date))
         .or(wrong_start(record.ramadan, record.date));
     if refusal.number != 0 {
-        return Reading::Refused(refusal);
+        return Err(refusal);
     }
-    Reading::Read(record)
+    Ok(record)
 }
 
-pub fn read(order: &[u8]) -> Reading
+pub fn read(order: &[u8]) -> Result<Order, Refusal>
     ensures { result ≡ reading_of order.now }
 {
     let checked = fields_of(order);
     let broken = checked.refusal;
     if broken.number != 0 {
-        return Reading::Refused(broken);
+        return Err(broken);
     }
     answer(order, checked.fields)
 }
 
 // The town's name, as that part of the order itself; an empty part if the order is refused.
-pub fn town(order: &[u8], reading: Reading) -> &[u8]
+pub fn town(order: &[u8], reading: Result<Order, Refusal>) -> &[u8]
     ensures { result.now ≡ town_in order.now reading }
 {
     match reading {
-        Reading::Read(record) => bytes(order, record.town),
-        Reading::Refused(_) => &order[0..0],
+        Ok(record) => bytes(order, record.town),
+        Err(_) => &order[0..0],
     }
 }

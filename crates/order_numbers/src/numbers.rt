@@ -8,7 +8,7 @@ use calendar::dates::Date;
 use fields::values::Part;
 use integers::parts::above;
 use models::adjustments::TimeAdjustment;
-use order::reading::{Order, Reading, read};
+use order::reading::{Order, read};
 use refusals::Refusal;
 use unit::Coordinates;
 
@@ -147,12 +147,12 @@ fn order_refused(refusal: Refusal) -> OrderNumbers
 }
 
 // What a reading gives: the record in numbers, or its refusal.
-pub fn numbers_of(reading: Reading) -> OrderNumbers
+pub fn numbers_of(reading: Result<Order, Refusal>) -> OrderNumbers
     ensures { result ≡ order_numbers_in reading }
 {
     match reading {
-        Reading::Read(order) => order_read(order),
-        Reading::Refused(refusal) => order_refused(refusal),
+        Ok(order) => order_read(order),
+        Err(refusal) => order_refused(refusal),
     }
 }
 

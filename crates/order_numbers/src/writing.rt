@@ -6,7 +6,7 @@ ghost use Rattle.order_numbers.specs.Writing.{refused_of, call_in, order_call_of
 
 use super::numbers::OrderNumbers;
 use super::put::{LINE_LENGTH, put_order};
-use order::reading::{Reading, read};
+use order::reading::read;
 use refusals::{BUFFER_SHORT, Refusal};
 use text::put::put;
 
@@ -34,8 +34,8 @@ fn hand_out(text: &[u8], buffer: &mut [u8]) -> WrittenOrder
     ensures buffer_after { buffer.new ≡ (call_in (reading_of text.now) text.now buffer.old).buffer }
 {
     match read(text) {
-        Reading::Refused(refusal) => refuse(refusal),
-        Reading::Read(_) => {
+        Err(refusal) => refuse(refusal),
+        Ok(_) => {
             if text.len() > buffer.len() {
                 return refuse(Refusal::new(BUFFER_SHORT, 0));
             }

@@ -1,4 +1,7 @@
 -- The suns roll from row to row, and the rows' cells follow one another. Assumes nothing.
+use Rattle.std.specs.Prelude.{Result}
+use Rattle.schedule.specs.declared.prayer_times.PrayerTimes.{PrayerTimes}
+use Rattle.refusals.specs.declared.Refusal.{Refusal}
 use Rattle.prelude.proofs.Logic.{◌≡◌, refl, sym, ap, ◌∙◌, List, [], ◌∷◌, ◌++◌, append-nil, ℕ, ◌+◌, ◌-◌, ◌*◌, ◌≤◌, ◌<◌, arith, length, w32}
 use Rattle.prelude.proofs.Logic.{SFits}
 use Rattle.braille.proofs.{Bits.dots_bound, Clock.cells-since, Parts.row_length_lem}
@@ -8,7 +11,7 @@ use Rattle.days.proofs.RowStates.{state_of, state-worked}
 use Rattle.days.specs.Calls.{work_row_of}
 use Rattle.integers.proofs.Ranges.{fits}
 use Rattle.order.specs.{Accepted.Accepted, declared.reading.Order.Order}
-use Rattle.schedule.specs.{RowSuns.row_suns_of, RowSuns.row_suns_since_of, declared.rolling.RowSuns.RowSuns, declared.prayer_times.Worked.Worked}
+use Rattle.schedule.specs.{RowSuns.row_suns_of, RowSuns.row_suns_since_of, declared.rolling.RowSuns.RowSuns}
 use Rattle.text.specs.Text.{put_of, front_of}
 use Rattle.text.proofs.TextLaws.{put_next}
 use Rattle.pages.specs.Pages.{row_of, rows_from, cells_of}
@@ -27,7 +30,7 @@ unfolding row_suns_of
 state_row o a k h =
     let date = row_date_of o.date k in
     sym (cells-since date o.clock (row_suns_since_of o.setting (state_of o k)))
-    ∙ ap (λ (w : Worked). row_cells date w o.clock) (state-worked o a k h)
+    ∙ ap (λ (w : Result PrayerTimes Refusal). row_cells date w o.clock) (state-worked o a k h)
 
 -- the cells from row `row` to before `next`
 abbrev pub cells_before : Order → ℕ → ℕ → List ℕ

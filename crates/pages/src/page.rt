@@ -9,7 +9,7 @@ use super::answer::Punched;
 use super::rows::write_rows;
 use braille::row::ROW_CELLS;
 use days::day::lacks_row;
-use order::reading::{Order, Reading, read};
+use order::reading::{Order, read};
 use refusals::{BUFFER_SHORT, Refusal};
 
 const PAGE_ROWS: u32 = 25;
@@ -68,7 +68,7 @@ pub fn write_page(order: &[u8], page: u32, first: u32, scratch: &mut [u8]) -> Pu
         return Punched::refused(Refusal::new(BUFFER_SHORT, 0));
     }
     match read(order) {
-        Reading::Read(order) => write_read(order, page, first, &mut scratch[..]),
-        Reading::Refused(refusal) => Punched::refused(refusal),
+        Ok(order) => write_read(order, page, first, &mut scratch[..]),
+        Err(refusal) => Punched::refused(refusal),
     }
 }

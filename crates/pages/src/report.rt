@@ -10,7 +10,7 @@ ghost use Rattle.pages.specs.Reports.{wear_text, total_text, cells_text, longest
 use super::rows::put_rows;
 use braille::row::ROW_CELLS;
 use lines::refused::put_refused_order;
-use order::reading::{MOST_ROWS, Order, Reading, read};
+use order::reading::{MOST_ROWS, Order, read};
 use text::decimal::put_decimal;
 use text::put::put;
 
@@ -48,8 +48,8 @@ pub fn write_wear(order: &[u8], buffer: &mut [u8]) -> usize
         return 0;
     }
     match read(order) {
-        Reading::Read(order) => put_total(&mut buffer[..], all_dots(order)),
-        Reading::Refused(refusal) => put_refused_order(&mut buffer[..], 0, refusal),
+        Ok(order) => put_total(&mut buffer[..], all_dots(order)),
+        Err(refusal) => put_refused_order(&mut buffer[..], 0, refusal),
     }
 }
 
@@ -71,7 +71,7 @@ pub fn write_pages(order: &[u8], buffer: &mut [u8]) -> usize
         return 0;
     }
     match read(order) {
-        Reading::Read(order) => put_pages(&mut buffer[..], order),
-        Reading::Refused(refusal) => put_refused_order(&mut buffer[..], 0, refusal),
+        Ok(order) => put_pages(&mut buffer[..], order),
+        Err(refusal) => put_refused_order(&mut buffer[..], 0, refusal),
     }
 }

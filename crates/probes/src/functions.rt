@@ -25,7 +25,6 @@ use ops::season::{
 };
 use ops::transit::Course;
 use solar::hours::{HourNumbers, afternoon_number, angle_number, date_course, hour_numbers};
-use solar::setting::SolarHour;
 use solar::times::solar_hour;
 use unit::{Angle, Coordinates};
 
@@ -204,15 +203,15 @@ pub struct ProbeTime {
     pub seconds: i32,
 }
 
-fn time(hour: SolarHour) -> ProbeTime
+fn time(hour: Option<i32>) -> ProbeTime
     ensures { result ≡ probe_time_of hour }
 {
     match hour {
-        SolarHour::Some(seconds) => ProbeTime {
+        Some(seconds) => ProbeTime {
             found: true,
             seconds: seconds,
         },
-        SolarHour::Nothing => ProbeTime {
+        None => ProbeTime {
             found: false,
             seconds: 0,
         },

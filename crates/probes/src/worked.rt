@@ -13,14 +13,15 @@ use models::high_altitude_rule::HighLatitudeRule;
 use models::madhab::Madhab;
 use models::method::Method;
 use models::parameters::Parameters;
+use models::prayer::Prayer;
 use models::rounding::Rounding;
 use models::rules::{Midnight, Rules, Southern};
 use models::setting::Setting;
 use models::shafaq::Shafaq;
 use refusals::Refusal;
 use schedule::hours::RowNumbers;
-use schedule::in_force::{Current, Instant, Remaining};
-use schedule::prayer_times::{PrayerTimes, Worked};
+use schedule::in_force::{HoursMinutes, Instant};
+use schedule::prayer_times::PrayerTimes;
 use schedule::rolling::RowSuns;
 use unit::Coordinates;
 
@@ -96,15 +97,15 @@ fn setting(latitude: f64, longitude: f64, settings: ProbeSettings, chosen: Probe
     }
 }
 
-fn answered(worked: Worked) -> ProbeDay
+fn answered(worked: Result<PrayerTimes, Refusal>) -> ProbeDay
     ensures { result ≡ probe_day_of worked }
 {
     match worked {
-        Worked::Times(times) => ProbeDay {
+        Ok(times) => ProbeDay {
             refusal: Refusal::none(),
             times: times,
         },
-        Worked::Refused(refusal) => ProbeDay {
+        Err(refusal) => ProbeDay {
             refusal: refusal,
             times: PrayerTimes::NONE,
         },
@@ -158,12 +159,12 @@ fn instant(seconds: i64, nanoseconds: u32) -> Instant
     }
 }
 
-fn number(current: Current) -> u32
+fn number(current: Option<Prayer>) -> u32
     ensures { result ≡ current_number_of current }
 {
     match current {
-        Current::Some(prayer) => prayer.number(),
-        Current::Nothing => 0,
+        Some(prayer) => prayer.number(),
+        None => 0,
     }
 }
 
@@ -192,16 +193,16 @@ pub struct ProbeRemaining {
     pub minutes: u32,
 }
 
-fn hours_minutes(remaining: Remaining) -> ProbeRemaining
+fn hours_minutes(remaining: Option<HoursMinutes>) -> ProbeRemaining
     ensures { result ≡ probe_remaining_of remaining }
 {
     match remaining {
-        Remaining::Some(time) => ProbeRemaining {
+        Some(time) => ProbeRemaining {
             found: true,
             hours: time.hours,
             minutes: time.minutes,
         },
-        Remaining::Nothing => ProbeRemaining {
+        None => ProbeRemaining {
             found: false,
             hours: 0,
             minutes: 0,

@@ -1,11 +1,11 @@
 -- Whole seconds ahead of an instant, and one step of the search for the prayer in force. Assumes nothing.
+use Rattle.std.specs.Prelude.{None, Some}
 use Rattle.prelude.proofs.Logic.{◌≡◌, refl, sym, ap, ◌∙◌, Bool, cond, ℕ, zero, suc, ◌+◌, ◌-◌, ◌*◌, ◌/◌, ◌≤◌, ◌<◌, arith, eqb, ℤ, pos}
 use Rattle.prelude.proofs.Logic.{negsuc, ◌+ℤ◌, ◌-ℤ◌, ◌*ℤ◌, eq-eqb, ne_eqb, w64, SFits, Fits}
 use Rattle.integers.proofs.Integers.{P, N, sum, difference, times, range}
 use Rattle.models.specs.Numbers.{prayer_of}
 use Rattle.schedule.specs.InForce.{in_second, nanoseconds_of, ahead_of, time_of, last_of}
 use Rattle.schedule.specs.declared.{in_force.Instant.Instant, prayer_times.PrayerTimes.PrayerTimes}
-use Rattle.schedule.specs.declared.in_force.Current.TheVariants.{Some, Nothing}
 
 pub sum_fits : (x y : ℤ) (a b : ℕ) → SFits w64 x → SFits w64 y → a ≡ P x → b ≡ N y → Fits w64 (a + b)
 sum_fits x y a b h k p q = let r = range w64 x h in let s = range w64 y k in record { fits = omega arith }
@@ -54,7 +54,7 @@ pub passed : (t : PrayerTimes) (i : Instant) (n : ℕ) → 0 < n → (ahead_of (
 passed t i n h e = found_at t i n h
     ∙ ap (λ (b : Bool). cond b (Some (prayer_of n)) (last_of t i (n - 1))) (ne_eqb (ahead_of (time_of t (prayer_of n)) i) 0 e)
 
-pub exhausted : (t : PrayerTimes) (i : Instant) (n : ℕ) → n ≤ 0 → last_of t i n ≡ Nothing
+pub exhausted : (t : PrayerTimes) (i : Instant) (n : ℕ) → n ≤ 0 → last_of t i n ≡ None
 unfolding last_of
 exhausted t i zero h = refl
 exhausted t i (suc n) h = absurd (omega arith)

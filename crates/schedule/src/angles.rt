@@ -8,7 +8,6 @@ use models::parameters::Parameters;
 use models::setting::Setting;
 use ops::transit::Course;
 use solar::hours::{afternoon_number, sine_number};
-use solar::setting::SolarHour;
 use solar::times::solar_hour;
 use unit::Angle;
 
@@ -30,7 +29,7 @@ impl TwilightSines {
     }
 
     // None if a seventh of the night takes the angle's place.
-    pub fn fajr_hour(self, setting: Setting, course: Course) -> SolarHour
+    pub fn fajr_hour(self, setting: Setting, course: Course) -> Option<i32>
         ensures { result ≡ fajr_hour_of setting self.fajr course }
     {
         let coordinates = setting.coordinates;
@@ -38,7 +37,7 @@ impl TwilightSines {
         let rules = setting.rules;
         let method = parameters.method;
         if by_seventh(method, coordinates.latitude) {
-            return SolarHour::Nothing;
+            return None;
         }
         let midnight = rules.midnight;
         let angle = Angle::new(-parameters.fajr_angle);
@@ -46,7 +45,7 @@ impl TwilightSines {
     }
 
     // None if an interval or a seventh of the night takes the angle's place.
-    pub fn isha_hour(self, setting: Setting, course: Course) -> SolarHour
+    pub fn isha_hour(self, setting: Setting, course: Course) -> Option<i32>
         ensures { result ≡ isha_hour_of setting self.isha course }
     {
         let coordinates = setting.coordinates;
@@ -54,10 +53,10 @@ impl TwilightSines {
         let rules = setting.rules;
         let method = parameters.method;
         if parameters.isha_interval > 0 {
-            return SolarHour::Nothing;
+            return None;
         }
         if by_seventh(method, coordinates.latitude) {
-            return SolarHour::Nothing;
+            return None;
         }
         let midnight = rules.midnight;
         let angle = Angle::new(-parameters.isha_angle);
@@ -65,7 +64,7 @@ impl TwilightSines {
     }
 }
 
-pub fn asr_hour(setting: Setting, course: Course) -> SolarHour
+pub fn asr_hour(setting: Setting, course: Course) -> Option<i32>
     ensures { result ≡ asr_hour_of setting course }
 {
     let coordinates = setting.coordinates;

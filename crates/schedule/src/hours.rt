@@ -5,8 +5,7 @@ ghost use Rattle.schedule.specs.Hours.{suns_of, hours_of};
 use models::rules::Midnight;
 use refusals::Refusal;
 use solar::hours::HourNumbers;
-use solar::setting::SolarHour;
-use solar::times::{SolarDay, SolarTime, solar_hour};
+use solar::times::{SolarTime, solar_hour};
 
 // The numbers of the date and of the two dates after it, of the date's Fajr, Asr and Isha, and of the next date's Fajr.
 #[repr(C)]
@@ -29,34 +28,32 @@ pub struct ThreeSuns {
     pub after: SolarTime,
 }
 
-#[derive(Clone, Copy)]
-pub enum Suns {
-    Whole(ThreeSuns),
-    // Number 6, 7 or 8. The place is the first of days 0, 1 and 2 that lacks a time.
-    Refused(Refusal),
-}
-
 // Each time is counted from 0h of its own date.
 #[derive(Clone, Copy)]
 pub struct RowHours {
-    pub suns: Suns,
-    pub fajr: SolarHour,
-    pub asr: SolarHour,
-    pub isha: SolarHour,
-    pub fajr_tomorrow: SolarHour,
+    pub suns: Result<ThreeSuns, Refusal>,
+    pub fajr: Option<i32>,
+    pub asr: Option<i32>,
+    pub isha: Option<i32>,
+    pub fajr_tomorrow: Option<i32>,
 }
 
-impl Suns {
-    pub fn new(today: SolarDay, tomorrow: SolarDay, after: SolarDay) -> Suns
+impl ThreeSuns {
+    // The three days, or the refusal of the first that lacks a time: 6, 7 or 8, with the day, 0, 1 or 2, as its place.
+    pub fn new(
+        today: Result<SolarTime, u32>,
+        tomorrow: Result<SolarTime, u32>,
+        after: Result<SolarTime, u32>,
+    ) -> Result<ThreeSuns, Refusal>
         ensures { result ≡ suns_of today tomorrow after }
     {
         match today {
-            SolarDay::Lacks(number) => Suns::Refused(Refusal::new(number, 0)),
-            SolarDay::Whole(first) => match tomorrow {
-                SolarDay::Lacks(number) => Suns::Refused(Refusal::new(number, 1)),
-                SolarDay::Whole(second) => match after {
-                    SolarDay::Lacks(number) => Suns::Refused(Refusal::new(number, 2)),
-                    SolarDay::Whole(third) => Suns::Whole(ThreeSuns {
+            Err(number) => Err(Refusal::new(number, 0)),
+            Ok(first) => match tomorrow {
+                Err(number) => Err(Refusal::new(number, 1)),
+                Ok(second) => match after {
+                    Err(number) => Err(Refusal::new(number, 2)),
+                    Ok(third) => Ok(ThreeSuns {
                         today: first,
                         tomorrow: second,
                         after: third,
@@ -72,7 +69,7 @@ impl RowHours {
         ensures { result ≡ hours_of rule numbers }
     {
         RowHours {
-            suns: Suns::new(
+            suns: ThreeSuns::new(
                 SolarTime::new(rule, numbers.today),
                 SolarTime::new(rule, numbers.tomorrow),
                 SolarTime::new(rule, numbers.after),

@@ -24,23 +24,11 @@ pub struct Instant {
     pub nanoseconds: u32,
 }
 
-#[derive(Clone, Copy)]
-pub enum Current {
-    Some(Prayer),
-    Nothing,
-}
-
 #[repr(C)]
 #[derive(Clone, Copy)]
 pub struct HoursMinutes {
     pub hours: u32,
     pub minutes: u32,
-}
-
-#[derive(Clone, Copy)]
-pub enum Remaining {
-    Some(HoursMinutes),
-    Nothing,
 }
 
 // The seconds from `seconds` to `time`, or 0 if `time` is not later. The difference of two i64 fits a u64, but not always an i64.
@@ -111,38 +99,38 @@ impl PrayerTimes {
     }
 
     // The last prayer in the list whose time is less than a second ahead. A later one in the list may have an earlier time.
-    pub fn current_time(self, instant: Instant) -> Current
+    pub fn current_time(self, instant: Instant) -> Option<Prayer>
         ensures { result ≡ current_time_of self instant }
     {
         let mut n: u32 = 8;
         while n > 0 {
             let prayer = Prayer::of_number(n);
             if ahead(self.time(prayer), instant) == 0 {
-                return Current::Some(prayer);
+                return Some(prayer);
             }
             n = n - 1;
         }
-        Current::Nothing
+        None
     }
 
-    pub fn next(self, instant: Instant) -> Current
+    pub fn next(self, instant: Instant) -> Option<Prayer>
         ensures { result ≡ next_of self instant }
     {
         match self.current_time(instant) {
-            Current::Some(prayer) => Current::Some(following(prayer)),
-            Current::Nothing => Current::Nothing,
+            Some(prayer) => Some(following(prayer)),
+            None => None,
         }
     }
 
-    pub fn time_remaining(self, instant: Instant) -> Remaining
+    pub fn time_remaining(self, instant: Instant) -> Option<HoursMinutes>
         ensures { result ≡ time_remaining_of self instant }
     {
         match self.next(instant) {
-            Current::Some(prayer) => {
+            Some(prayer) => {
                 let seconds = ahead(self.time(prayer), instant);
-                Remaining::Some(hours_minutes(seconds))
+                Some(hours_minutes(seconds))
             }
-            Current::Nothing => Remaining::Nothing,
+            None => None,
         }
     }
 }

@@ -2,44 +2,20 @@
 ghost use Rattle.std.specs.Prelude.{◌≡◌};
 ghost use Rattle.schedule.specs.Builder.{no_schedule, on_of, for_location_of, with_configuration_of, calculate_of};
 
-use super::prayer_times::Worked;
 use super::rolling::RowSuns;
+use crate::prayer_times::PrayerTimes;
 use calendar::dates::Date;
 use models::parameters::Parameters;
 use models::rules::Rules;
 use models::setting::Setting;
+use refusals::Refusal;
 use unit::Coordinates;
 
 #[derive(Clone, Copy)]
-pub enum ChosenDate {
-    Some(Date),
-    Nothing,
-}
-
-#[derive(Clone, Copy)]
-pub enum ChosenPlace {
-    Some(Coordinates),
-    Nothing,
-}
-
-#[derive(Clone, Copy)]
-pub enum ChosenParameters {
-    Some(Parameters),
-    Nothing,
-}
-
-#[derive(Clone, Copy)]
 pub struct PrayerSchedule {
-    pub date: ChosenDate,
-    pub coordinates: ChosenPlace,
-    pub params: ChosenParameters,
-}
-
-#[derive(Clone, Copy)]
-pub enum Calculated {
-    Some(Worked),
-    // Date, coordinates and parameters are all needed.
-    Nothing,
+    pub date: Option<Date>,
+    pub coordinates: Option<Coordinates>,
+    pub params: Option<Parameters>,
 }
 
 impl PrayerSchedule {
@@ -47,9 +23,9 @@ impl PrayerSchedule {
         ensures { result ≡ no_schedule }
     {
         PrayerSchedule {
-            date: ChosenDate::Nothing,
-            coordinates: ChosenPlace::Nothing,
-            params: ChosenParameters::Nothing,
+            date: None,
+            coordinates: None,
+            params: None,
         }
     }
 
@@ -59,7 +35,7 @@ impl PrayerSchedule {
         let coordinates = self.coordinates;
         let params = self.params;
         PrayerSchedule {
-            date: ChosenDate::Some(date),
+            date: Some(date),
             coordinates: coordinates,
             params: params,
         }
@@ -72,7 +48,7 @@ impl PrayerSchedule {
         let params = self.params;
         PrayerSchedule {
             date: date,
-            coordinates: ChosenPlace::Some(location),
+            coordinates: Some(location),
             params: params,
         }
     }
@@ -85,30 +61,30 @@ impl PrayerSchedule {
         PrayerSchedule {
             date: date,
             coordinates: coordinates,
-            params: ChosenParameters::Some(params),
+            params: Some(params),
         }
     }
 
-    pub fn calculate(self) -> Calculated
+    pub fn calculate(self) -> Option<Result<PrayerTimes, Refusal>>
         ensures { result ≡ calculate_of self }
     {
         let date = self.date;
         let place = self.coordinates;
         let params = self.params;
-        let ChosenDate::Some(date) = date else {
-            return Calculated::Nothing;
+        let Some(date) = date else {
+            return None;
         };
-        let ChosenPlace::Some(coordinates) = place else {
-            return Calculated::Nothing;
+        let Some(coordinates) = place else {
+            return None;
         };
-        let ChosenParameters::Some(parameters) = params else {
-            return Calculated::Nothing;
+        let Some(parameters) = params else {
+            return None;
         };
         let setting = Setting {
             coordinates: coordinates,
             parameters: parameters,
             rules: Rules::source(),
         };
-        Calculated::Some(RowSuns::new(date, setting).work(setting))
+        Some(RowSuns::new(date, setting).work(setting))
     }
 }

@@ -11,7 +11,7 @@ ghost use Rattle.schedule.specs.Times.{since_of, worked_of, worked_by};
 ghost use Rattle.schedule.specs.Each.{Each, NearIn};
 ghost use Rattle.schedule.specs.Twilight.{unadjusted_fajr_of};
 
-use super::hours::{RowHours, RowNumbers, Suns, ThreeSuns};
+use super::hours::{RowHours, RowNumbers, ThreeSuns};
 use super::twilight::{or, unadjusted_fajr, unadjusted_isha};
 use calendar::dates::Date;
 use models::parameters::Parameters;
@@ -21,7 +21,6 @@ use models::rules::Season;
 use models::setting::Setting;
 use night_portions::portions::{last_third, middle};
 use refusals::Refusal;
-use solar::setting::SolarHour;
 use solar::times::SolarTime;
 use whole_minutes::times::{adjust_time, rounded_minute};
 
@@ -38,21 +37,6 @@ pub struct PrayerTimes {
     pub middle_of_the_night: i64,
     pub qiyam: i64,
     pub fajr_tomorrow: i64,
-}
-
-#[derive(Clone, Copy)]
-pub enum Worked {
-    Times(PrayerTimes),
-    // Number 6, 7 or 8, with the day as its place.
-    Refused(Refusal),
-}
-
-// A date's Fajr by itself, in seconds from 0h of the date.
-#[derive(Clone, Copy)]
-pub enum FajrAlone {
-    Some(i64),
-    // The date's times are refused.
-    Nothing,
 }
 
 // Two times of the night, which is from maghrib to tomorrow's Fajr.
@@ -80,7 +64,7 @@ fn next_fajr(
     date: Date,
     tomorrow: SolarTime,
     after: SolarTime,
-    hour: SolarHour,
+    hour: Option<i32>,
 ) -> i64
     ensures { (result ≡ fajr_tomorrow_of parameters season date tomorrow after hour) × Near (2 ^ 41) result }
 {
@@ -153,7 +137,7 @@ fn final_fajr(
     season: Season,
     date: Date,
     suns: ThreeSuns,
-    hour: SolarHour,
+    hour: Option<i32>,
 ) -> i64
     ensures { result ≡ final_of parameters Fajr (unadjusted_fajr_of parameters season date suns.today suns.tomorrow hour) }
 {
@@ -190,46 +174,50 @@ fn started(date: Date, times: PrayerTimes) -> PrayerTimes
 
 impl RowHours {
     // The nine in seconds from 0h of the date, or its refusal.
-    pub fn since_midnight(self, date: Date, season: Season, parameters: Parameters) -> Worked
-        ensures { (result ≡ since_of self date season parameters) × NearIn result }
-    {
-        let suns = self.suns;
-        match suns {
-            Suns::Whole(three) => {
-                Worked::Times(from_midnight(parameters, season, date, three, self))
-            }
-            Suns::Refused(refusal) => Worked::Refused(refusal),
-        }
-    }
-
-    // The nine times of a date, or its refusal.
-    pub fn work(self, date: Date, season: Season, parameters: Parameters) -> Worked
-        ensures { result ≡ worked_of self date season parameters }
-    {
-        match self.since_midnight(date, season, parameters) {
-            Worked::Times(times) => Worked::Times(started(date, times)),
-            Worked::Refused(refusal) => Worked::Refused(refusal),
-        }
-    }
-}
-
-impl Suns {
-    // Works the Fajr of `date` and none of its other times. `date` is the first of the three dates of these suns.
-    pub fn fajr(
+    pub fn since_midnight(
         self,
         date: Date,
         season: Season,
         parameters: Parameters,
-        hour: SolarHour,
-    ) -> FajrAlone
-        ensures { result ≡ fajr_alone_of self date season parameters hour }
+    ) -> Result<PrayerTimes, Refusal>
+        ensures { (result ≡ since_of self date season parameters) × NearIn result }
     {
-        match self {
-            Suns::Whole(three) => FajrAlone::Some(final_fajr(
-                parameters, season, date, three, hour,
-            )),
-            Suns::Refused(_) => FajrAlone::Nothing,
+        let suns = self.suns;
+        match suns {
+            Ok(three) => { Ok(from_midnight(parameters, season, date, three, self)) }
+            Err(refusal) => Err(refusal),
         }
+    }
+
+    // The nine times of a date, or its refusal.
+    pub fn work(
+        self,
+        date: Date,
+        season: Season,
+        parameters: Parameters,
+    ) -> Result<PrayerTimes, Refusal>
+        ensures { result ≡ worked_of self date season parameters }
+    {
+        match self.since_midnight(date, season, parameters) {
+            Ok(times) => Ok(started(date, times)),
+            Err(refusal) => Err(refusal),
+        }
+    }
+}
+
+// Works the Fajr of `date` and none of its other times, in seconds from 0h of the date. `date` is the first of the three dates of these suns.
+pub fn fajr_alone(
+    suns: Result<ThreeSuns, Refusal>,
+    date: Date,
+    season: Season,
+    parameters: Parameters,
+    hour: Option<i32>,
+) -> Option<i64>
+    ensures { result ≡ fajr_alone_of suns date season parameters hour }
+{
+    match suns {
+        Ok(three) => Some(final_fajr(parameters, season, date, three, hour)),
+        Err(_) => None,
     }
 }
 
@@ -247,7 +235,7 @@ impl PrayerTimes {
         fajr_tomorrow: 0,
     };
 
-    pub fn new(numbers: RowNumbers, date: Date, setting: Setting) -> Worked
+    pub fn new(numbers: RowNumbers, date: Date, setting: Setting) -> Result<PrayerTimes, Refusal>
         ensures { result ≡ worked_by numbers date setting }
     {
         let rules = setting.rules;

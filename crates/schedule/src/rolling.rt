@@ -10,24 +10,25 @@ ghost use Rattle.schedule.specs.RowSuns.{courses_of, day_sun_of, row_suns_of, ne
 ghost use Rattle.schedule.specs.RowSuns.{row_suns_worked_of, row_suns_fajr_of};
 
 use super::angles::{TwilightSines, asr_hour};
-use super::hours::{RowHours, Suns};
-use super::prayer_times::{FajrAlone, Worked};
+use super::hours::RowHours;
+use crate::hours::ThreeSuns;
+use crate::prayer_times::{PrayerTimes, fajr_alone};
 use calendar::dates::Date;
 use julian::day::date_julian_day;
 use models::rules::Rules;
 use models::setting::Setting;
 use ops::coordinates::{Equatorial, MeanElements, place, sidereal_time};
 use ops::transit::{Course, Observer};
+use refusals::Refusal;
 use solar::hours::hour_numbers;
-use solar::setting::SolarHour;
-use solar::times::{SolarDay, SolarTime};
+use solar::times::SolarTime;
 use unit::Coordinates;
 
 // The sun's course over the place on a day, and its times.
 #[derive(Clone, Copy)]
 pub struct DaySun {
     pub course: Course,
-    pub times: SolarDay,
+    pub times: Result<SolarTime, u32>,
 }
 
 // What a row is worked from: the sun of its date and of the two days after it, and the hours of Fajr's angle on the date and on the next.
@@ -42,8 +43,8 @@ pub struct RowSuns {
     pub today: DaySun,
     pub tomorrow: DaySun,
     pub after: DaySun,
-    pub fajr: SolarHour,
-    pub fajr_tomorrow: SolarHour,
+    pub fajr: Option<i32>,
+    pub fajr_tomorrow: Option<i32>,
 }
 
 // The sun's courses on a date and on the two days after it, and what the next one is made from.
@@ -203,7 +204,7 @@ impl RowSuns {
         }
     }
 
-    fn suns(self) -> Suns
+    fn suns(self) -> Result<ThreeSuns, Refusal>
         ensures { result ≡ three_suns_of self }
     {
         let today = self.today;
@@ -212,17 +213,16 @@ impl RowSuns {
         let first = today.times;
         let second = tomorrow.times;
         let third = after.times;
-        Suns::new(first, second, third)
+        ThreeSuns::new(first, second, third)
     }
 
     // The row's Fajr by itself: of the row's own hours neither Asr's nor Isha's is worked.
-    pub fn fajr(self, setting: Setting) -> FajrAlone
+    pub fn fajr(self, setting: Setting) -> Option<i64>
         ensures { result ≡ row_suns_fajr_of setting self }
     {
         let hour = self.fajr;
         let season = setting.season();
-        self.suns()
-            .fajr(self.date, season, setting.parameters, hour)
+        fajr_alone(self.suns(), self.date, season, setting.parameters, hour)
     }
 
     // What the row's times are worked from.
@@ -244,7 +244,7 @@ impl RowSuns {
     }
 
     // The row's times in seconds from 0h of its date, or its refusal.
-    pub fn since_midnight(self, setting: Setting) -> Worked
+    pub fn since_midnight(self, setting: Setting) -> Result<PrayerTimes, Refusal>
         ensures { (result ≡ row_suns_since_of setting self) × NearIn result }
     {
         self.hours(setting)
@@ -252,7 +252,7 @@ impl RowSuns {
     }
 
     // The row's times, or its refusal.
-    pub fn work(self, setting: Setting) -> Worked
+    pub fn work(self, setting: Setting) -> Result<PrayerTimes, Refusal>
         ensures { result ≡ row_suns_worked_of setting self }
     {
         self.hours(setting)

@@ -12,7 +12,6 @@ use models::rounding::Rounding;
 use models::rules::Season;
 use night_portions::portions::{portion_after, portion_before, seventh};
 use ops::season::{evening_twilight_seconds, morning_twilight_seconds};
-use solar::setting::SolarHour;
 use solar::times::SolarTime;
 use whole_minutes::times::rounded_minute;
 
@@ -68,13 +67,13 @@ fn earlier(a: i64, b: i64) -> i64
 }
 
 // `hour`'s time, or `other` if it has none.
-pub fn or(hour: SolarHour, other: i64) -> i64
+pub fn or(hour: Option<i32>, other: i64) -> i64
     requires { Near (2 ^ 38) other }
     ensures { (result ≡ or_of hour other) × Near (2 ^ 38) result }
 {
     match hour {
-        SolarHour::Some(time) => time as i64,
-        SolarHour::Nothing => other,
+        Some(time) => time as i64,
+        None => other,
     }
 }
 
@@ -110,7 +109,7 @@ pub fn by_seventh(method: Method, latitude: f64) -> bool
 }
 
 // The time that is compared with `bound`: the one by a seventh of the night, or the angle's.
-fn own(method: Method, latitude: f64, seventh: i64, hour: SolarHour, bound: i64) -> i64
+fn own(method: Method, latitude: f64, seventh: i64, hour: Option<i32>, bound: i64) -> i64
     requires { Near (2 ^ 38) seventh × Near (2 ^ 38) bound }
     ensures { (result ≡ own_of method latitude seventh hour bound) × Near (2 ^ 38) result }
 {
@@ -144,7 +143,7 @@ pub fn unadjusted_fajr(
     date: Date,
     today: SolarTime,
     next: SolarTime,
-    hour: SolarHour,
+    hour: Option<i32>,
 ) -> i64
     ensures { (result ≡ unadjusted_fajr_of parameters season date today next hour) × Near (2 ^ 38) result }
 {
@@ -181,7 +180,7 @@ fn bounded_isha(
     date: Date,
     today: SolarTime,
     next: SolarTime,
-    hour: SolarHour,
+    hour: Option<i32>,
 ) -> i64
     ensures { (result ≡ bounded_isha_of parameters season date today next hour) × Near (2 ^ 38) result }
 {
@@ -198,7 +197,7 @@ pub fn unadjusted_isha(
     date: Date,
     today: SolarTime,
     next: SolarTime,
-    hour: SolarHour,
+    hour: Option<i32>,
 ) -> i64
     ensures { (result ≡ unadjusted_isha_of parameters season date today next hour) × Near (2 ^ 38) result }
 {

@@ -1,4 +1,7 @@
 -- The suns roll from row to row, and the rows' lines follow one another. Assumes nothing.
+use Rattle.std.specs.Prelude.{Result}
+use Rattle.schedule.specs.declared.prayer_times.PrayerTimes.{PrayerTimes}
+use Rattle.refusals.specs.declared.Refusal.{Refusal}
 use Rattle.prelude.proofs.Logic.{◌≡◌, sym, ap, ◌∙◌, List, ℕ, ◌+◌, ◌*◌, ◌≤◌, ◌<◌, mul-le-mul_right, arith, length}
 use Rattle.calendar.specs.Answers.{row_date_of}
 use Rattle.days.proofs.RowStates.{state_of, worked_by_suns, state-worked}
@@ -10,7 +13,6 @@ use Rattle.lines.specs.Since.{line_since}
 use Rattle.schedule.specs.RowSuns.{row_suns_of, row_suns_since_of}
 use Rattle.schedule.specs.Each.{NearIn}
 use Rattle.schedule.specs.Times.{started_in}
-use Rattle.schedule.specs.declared.prayer_times.Worked.{Worked}
 use Rattle.schedule.specs.declared.rolling.RowSuns.{RowSuns}
 use Rattle.text.specs.Text.{put_of}
 use Rattle.sheets.specs.Rows.{lines_text}
@@ -26,7 +28,7 @@ state_line o a k h = ap (line_text o.ramadan (row_date_of o.date k)) (state-work
 
 -- and from its times since 0h
 pub since_line : (o : Order) → Accepted o → (suns : RowSuns) (k : ℕ) → k < o.rows → suns ≡ state_of o k
-    → (w : Worked) → w ≡ row_suns_since_of o.setting suns → NearIn w
+    → (w : Result PrayerTimes Refusal) → w ≡ row_suns_since_of o.setting suns → NearIn w
     → line_since o.ramadan suns.date w ≡ made_line o suns
 unfolding row_suns_of
 since_line o a suns k h s w e near =
@@ -34,7 +36,7 @@ since_line o a suns k h s w e near =
     let to = (a.row k h).to in
     let year : suns.date.year ≡ (row_date_of o.date k).year = ap (λ (r : RowSuns). r.date.year) s in
     sym (line_since_lem o.ramadan suns.date w (omega arith) (omega arith) near)
-    ∙ ap (λ (x : Worked). line_text o.ramadan suns.date (started_in suns.date x)) e
+    ∙ ap (λ (x : Result PrayerTimes Refusal). line_text o.ramadan suns.date (started_in suns.date x)) e
 
 add_one_le : {k n : ℕ} → k < n → k + 1 ≤ n
 add_one_le h = omega arith

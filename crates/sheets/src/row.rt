@@ -11,22 +11,27 @@ use calendar::dates::Date;
 use days::day::{lacks_row, since_midnight};
 use hijri::ramadan::Ramadan;
 use lines::row::{ROW_BYTES, put_row, row_bytes};
-use order::reading::{Order, Reading, read};
+use order::reading::{Order, read};
 use refusals::{BUFFER_SHORT, Refusal};
-use schedule::prayer_times::Worked;
+use schedule::prayer_times::PrayerTimes;
 
 // Returns number 0 if the row is written. Its times are in seconds from 0h of the date.
-fn write_worked(ramadan: Ramadan, date: Date, worked: Worked, buffer: &mut [u8]) -> Refusal
+fn write_worked(
+    ramadan: Ramadan,
+    date: Date,
+    worked: Result<PrayerTimes, Refusal>,
+    buffer: &mut [u8],
+) -> Refusal
     requires { (row_room ramadan ≤ length buffer.old) × NearIn worked }
     ensures value { result ≡ (worked_call_of ramadan date (started_in date worked) buffer.old).answer }
     ensures buffer_after { buffer.new ≡ (worked_call_of ramadan date (started_in date worked) buffer.old).buffer }
 {
     match worked {
-        Worked::Times(times) => {
+        Ok(times) => {
             put_row(&mut buffer[..], 0, ramadan, date, times);
             Refusal::none()
         }
-        Worked::Refused(refusal) => refusal,
+        Err(refusal) => refusal,
     }
 }
 
@@ -67,7 +72,7 @@ pub fn write_row(order: &[u8], row: u32, buffer: &mut [u8]) -> Refusal
         return Refusal::new(BUFFER_SHORT, 0);
     }
     match read(order) {
-        Reading::Read(order) => write_read(order, row, &mut buffer[..]),
-        Reading::Refused(refusal) => refusal,
+        Ok(order) => write_read(order, row, &mut buffer[..]),
+        Err(refusal) => refusal,
     }
 }

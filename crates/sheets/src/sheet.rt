@@ -12,8 +12,9 @@ use fields::tags::LONGEST_TOWN;
 use hijri::ramadan::Ramadan;
 use lines::refused::{put_refused_day, put_refused_order};
 use lines::row::{ROW_BYTES, put_row};
-use order::reading::{MOST_ROWS, Order, Reading, read, town};
-use schedule::prayer_times::Worked;
+use order::reading::{MOST_ROWS, Order, read, town};
+use refusals::Refusal;
+use schedule::prayer_times::PrayerTimes;
 use schedule::rolling::RowSuns;
 use text::put::put;
 
@@ -28,13 +29,19 @@ pub const SHEET_BYTES: usize = LONGEST_TOWN as usize
     + ROW_BYTES * MOST_ROWS as usize;
 
 // Writes a row's line, or the line of its refusal. Returns its length. The times are in seconds from 0h of the date.
-fn put_line(buffer: &mut [u8], at: usize, ramadan: Ramadan, date: Date, worked: Worked) -> usize
+fn put_line(
+    buffer: &mut [u8],
+    at: usize,
+    ramadan: Ramadan,
+    date: Date,
+    worked: Result<PrayerTimes, Refusal>,
+) -> usize
     ensures value { result ≡ length (line_since ramadan date worked) }
     ensures buffer_after { buffer.new ≡ put_of buffer.old at (line_since ramadan date worked) }
 {
     match worked {
-        Worked::Times(times) => put_row(&mut buffer[..], at, ramadan, date, times),
-        Worked::Refused(refusal) => put_refused_day(&mut buffer[..], at, date, refusal),
+        Ok(times) => put_row(&mut buffer[..], at, ramadan, date, times),
+        Err(refusal) => put_refused_day(&mut buffer[..], at, date, refusal),
     }
 }
 
@@ -111,7 +118,7 @@ pub fn write_sheet(order: &[u8], buffer: &mut [u8]) -> usize
     let reading = read(order);
     let name = town(order, reading);
     match reading {
-        Reading::Read(record) => put_accepted(&mut buffer[..], name, record),
-        Reading::Refused(refusal) => put_refused_order(&mut buffer[..], 0, refusal),
+        Ok(record) => put_accepted(&mut buffer[..], name, record),
+        Err(refusal) => put_refused_order(&mut buffer[..], 0, refusal),
     }
 }

@@ -2,7 +2,7 @@
 ghost use Rattle.std.specs.Prelude.{◌≡◌};
 ghost use Rattle.solar.specs.PastMidnight.{has_time_of, next_midnight_of, carried_of, carried_hour_of};
 
-use super::setting::{Placed, SolarHour, hour, hour_adjustment, minute};
+use super::setting::{Placed, hour, hour_adjustment, minute};
 use float64::sizes::is_normal;
 use float64::whole::floor;
 
@@ -14,25 +14,25 @@ fn has_time(value: f64) -> bool
 }
 
 // 00:00 of the date after the one taken.
-fn next_midnight(ahead: u8) -> SolarHour
+fn next_midnight(ahead: u8) -> Option<i32>
     ensures { result ≡ next_midnight_of ahead }
 {
-    SolarHour::Some(((ahead as u32) * 86400) as i32)
+    Some(((ahead as u32) * 86400) as i32)
 }
 
 // The time by the source's rule. If that has none, the hour came to 24, and the time is the next midnight.
-fn carried(p: Placed, minute: u32) -> SolarHour
+fn carried(p: Placed, minute: u32) -> Option<i32>
     ensures { result ≡ carried_of p minute }
 {
     let ahead = p.ahead;
     match hour(p, minute) {
-        SolarHour::Some(time) => SolarHour::Some(time),
-        SolarHour::Nothing => next_midnight(ahead),
+        Some(time) => Some(time),
+        None => next_midnight(ahead),
     }
 }
 
 // The time of an hour number, if it has one. A number in the range that is not normal is zero or subnormal.
-pub fn carried_hour(value: f64) -> SolarHour
+pub fn carried_hour(value: f64) -> Option<i32>
     ensures { result ≡ carried_hour_of value }
 {
     if has_time(value) {
@@ -40,7 +40,7 @@ pub fn carried_hour(value: f64) -> SolarHour
             let hours = floor(value);
             return carried(hour_adjustment(hours), minute(value, hours));
         }
-        return SolarHour::Some(0);
+        return Some(0);
     }
-    SolarHour::Nothing
+    None
 }

@@ -8,13 +8,6 @@ use float64::casts::to_u32;
 use float64::sizes::is_normal;
 use float64::whole::{floor, round};
 
-#[derive(Clone, Copy)]
-pub enum SolarHour {
-    // Below 0 a time of yesterday, from 86,400 on one of tomorrow.
-    Some(i32),
-    Nothing,
-}
-
 // An hour of yesterday (0), of the date (1) or of tomorrow (2).
 #[derive(Clone, Copy)]
 pub struct Placed {
@@ -73,7 +66,7 @@ fn date_minute(value: f64, calculated_hours: f64) -> u32
     minute(value, calculated_hours)
 }
 
-pub(crate) fn hour(p: Placed, minute: u32) -> SolarHour
+pub(crate) fn hour(p: Placed, minute: u32) -> Option<i32>
     ensures { result ≡ hour_of p minute }
 {
     let ahead = p.ahead;
@@ -81,19 +74,19 @@ pub(crate) fn hour(p: Placed, minute: u32) -> SolarHour
     if minute < 60 {
         if hour < 24 {
             let n = (ahead as u32) * 86400 + hour * 3600 + minute * 60;
-            return SolarHour::Some(n as i32 - 86400);
+            return Some(n as i32 - 86400);
         }
-        return SolarHour::Nothing;
+        return None;
     }
     if hour < 23 {
         let n = (ahead as u32) * 86400 + (hour + 1) * 3600;
-        return SolarHour::Some(n as i32 - 86400);
+        return Some(n as i32 - 86400);
     }
-    SolarHour::Nothing
+    None
 }
 
 // A number above 1 and below 24 is normal, and its floored hours are an hour of the date.
-fn date_hour(value: f64) -> SolarHour
+fn date_hour(value: f64) -> Option<i32>
     requires { (lt (dec 1 0) value ≡ true) × (lt value (dec 24 0) ≡ true) }
     ensures { result ≡ setting_hour_of value }
 {
@@ -106,7 +99,7 @@ fn date_hour(value: f64) -> SolarHour
 }
 
 // The time of an hour number, if it has one.
-pub fn setting_hour(value: f64) -> SolarHour
+pub fn setting_hour(value: f64) -> Option<i32>
     ensures { result ≡ setting_hour_of value }
 {
     if 1.0 < value {
@@ -118,5 +111,5 @@ pub fn setting_hour(value: f64) -> SolarHour
         let hours = floor(value);
         return hour(hour_adjustment(hours), minute(value, hours));
     }
-    SolarHour::Nothing
+    None
 }

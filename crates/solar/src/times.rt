@@ -6,14 +6,14 @@ ghost use Rattle.solar.specs.Times.{solar_hour_of, day_of, solar_time_of, time_f
 
 use super::hours::{HourNumbers, afternoon_number, angle_number, date_course};
 use super::past_midnight::carried_hour;
-use super::setting::{SolarHour, setting_hour};
+use super::setting::setting_hour;
 use calendar::dates::Date;
 use models::rules::Midnight;
 use refusals::{NO_SUNRISE, NO_SUNSET, NO_TRANSIT};
 use unit::{Angle, Coordinates};
 
 // The time of an hour number by a rule, if it has one. Only this function looks at the rule.
-pub fn solar_hour(rule: Midnight, number: f64) -> SolarHour
+pub fn solar_hour(rule: Midnight, number: f64) -> Option<i32>
     ensures { result ≡ solar_hour_of rule number }
 {
     match rule {
@@ -29,27 +29,20 @@ pub struct SolarTime {
     pub sunset: i32,
 }
 
-#[derive(Clone, Copy)]
-pub enum SolarDay {
-    Whole(SolarTime),
-    // 6 the transit, 7 the sunrise, 8 the sunset.
-    Lacks(u32),
-}
-
 // The three times, or the first that is missing.
-fn day(transit: SolarHour, sunrise: SolarHour, sunset: SolarHour) -> SolarDay
+fn day(transit: Option<i32>, sunrise: Option<i32>, sunset: Option<i32>) -> Result<SolarTime, u32>
     ensures { result ≡ day_of transit sunrise sunset }
 {
-    let SolarHour::Some(transit) = transit else {
-        return SolarDay::Lacks(NO_TRANSIT);
+    let Some(transit) = transit else {
+        return Err(NO_TRANSIT);
     };
-    let SolarHour::Some(sunrise) = sunrise else {
-        return SolarDay::Lacks(NO_SUNRISE);
+    let Some(sunrise) = sunrise else {
+        return Err(NO_SUNRISE);
     };
-    let SolarHour::Some(sunset) = sunset else {
-        return SolarDay::Lacks(NO_SUNSET);
+    let Some(sunset) = sunset else {
+        return Err(NO_SUNSET);
     };
-    SolarDay::Whole(SolarTime {
+    Ok(SolarTime {
         transit: transit,
         sunrise: sunrise,
         sunset: sunset,
@@ -57,7 +50,7 @@ fn day(transit: SolarHour, sunrise: SolarHour, sunset: SolarHour) -> SolarDay
 }
 
 impl SolarTime {
-    pub fn new(rule: Midnight, numbers: HourNumbers) -> SolarDay
+    pub fn new(rule: Midnight, numbers: HourNumbers) -> Result<SolarTime, u32>
         ensures { result ≡ solar_time_of rule numbers }
     {
         day(
@@ -75,7 +68,7 @@ pub fn time_for_solar_angle(
     coordinates: Coordinates,
     angle: Angle,
     after_transit: bool,
-) -> SolarHour
+) -> Option<i32>
     ensures { result ≡ time_for_solar_angle_of rule (sun_on coordinates date) angle after_transit }
 {
     let course = date_course(date, coordinates);
@@ -88,7 +81,7 @@ pub fn afternoon(
     date: Date,
     coordinates: Coordinates,
     shadow_length: f64,
-) -> SolarHour
+) -> Option<i32>
     ensures { result ≡ afternoon_of rule (sun_on coordinates date) shadow_length }
 {
     let course = date_course(date, coordinates);

@@ -1,4 +1,7 @@
 -- A row's minute, as it is worked and as it is defined. Assumes nothing.
+use Rattle.std.specs.Prelude.{Err, None, Ok, Option, Result, Some}
+use Rattle.schedule.specs.declared.prayer_times.PrayerTimes.{PrayerTimes}
+use Rattle.refusals.specs.declared.Refusal.{Refusal}
 use Rattle.prelude.proofs.Logic.{◌≡◌, refl, ap, ◌∙◌, Bool, true, false, cond, List, ℕ, ◌+◌, ◌*◌, ◌/◌, ◌%◌, ◌^◌, ◌<◌, arith, lit≤, lit<, ℤ}
 use Rattle.prelude.proofs.Logic.{pos, negsuc, ◌+ℤ◌, ◌*ℤ◌, w64, SFits, to_z, to_z_pos, length, set, get_or-set_same, get_or-set_other, eqb}
 use Rattle.prelude.proofs.Logic.{eqb-true, eqb-false, eq-eqb, ne_eqb, cases}
@@ -9,11 +12,10 @@ use Rattle.integers.proofs.Integers.{Near, floor_quot, floor_rem, Held, held_sum
 use Rattle.integers.proofs.Integers.{read_back, sum, times}
 use Rattle.order.specs.{Accepted.Accepted, declared.reading.Order.Order}
 use Rattle.schedule.proofs.RowSunsLaws.{suns_fajr}
-use Rattle.schedule.specs.{RowSuns.row_suns_of, RowSuns.row_suns_fajr_of, declared.prayer_times.Worked.Worked}
-use Rattle.schedule.specs.{declared.prayer_times.Worked.TheVariants.Times, declared.prayer_times.Worked.TheVariants.Refused, Fajr.fajr_in}
+use Rattle.schedule.specs.{RowSuns.row_suns_of, RowSuns.row_suns_fajr_of}
+use Rattle.schedule.specs.{Fajr.fajr_in}
 use Rattle.weeks.specs.Report.{minute_in, row_minute}
-use Rattle.schedule.specs.declared.{prayer_times.FajrAlone.FajrAlone, rolling.RowSuns.RowSuns}
-use Rattle.weeks.specs.declared.minutes.Minute.TheVariants.{Some, Nothing}
+use Rattle.schedule.specs.declared.{rolling.RowSuns.RowSuns}
 use Rattle.weeks.specs.Kept.{minute_from, minute_at}
 use borrow.Author.Count.{below_more}
 
@@ -63,17 +65,17 @@ module _ (z : ℤ) (f : SFits w64 z) (d : ℤ) (n : ℕ) (k : read_back w64 d �
   minutes_read = (stored minutes (lit≤ tt)).is ∙ by_days z
 
 -- ---- the minute of a row of an order
-pub minute_is : (o : Order) (row : ℕ) (w : Worked) → minute_from (fajr_in (row_date_of o.date row) w) ≡ minute_in o row w
+pub minute_is : (o : Order) (row : ℕ) (w : Result PrayerTimes Refusal) → minute_from (fajr_in (row_date_of o.date row) w) ≡ minute_in o row w
 unfolding minute_from fajr_in minute_in
-minute_is o row (Times t) = refl
-minute_is o row (Refused r) = refl
+minute_is o row (Ok t) = refl
+minute_is o row (Err r) = refl
 
 pub state_minute : (o : Order) → Accepted o → (k : ℕ) → k < o.rows
     → minute_from (row_suns_fajr_of o.setting (state_of o k)) ≡ row_minute o k
 unfolding row_suns_of
 state_minute o a k h =
     ap minute_from (suns_fajr o.setting (state_of o k))
-    ∙ ap (λ (w : Worked). minute_from (fajr_in (row_date_of o.date k) w)) (state-worked o a k h)
+    ∙ ap (λ (w : Result PrayerTimes Refusal). minute_from (fajr_in (row_date_of o.date k) w)) (state-worked o a k h)
     ∙ minute_is o k (work_row_of o k)
 
 -- ---- rows that are stored
@@ -87,7 +89,7 @@ module _ (minutes : List ℤ) (refused : List Bool) (row : ℕ) (b : row < lengt
       (λ t. let other = eqb-false k row t in
       simp (t, get_or-set_other refused row k false false other, get_or-set_other minutes row k z (pos 0) other))
 
-  pub stored_refused : (k : ℕ) → minute_at minutes (set refused row true) k ≡ cond (eqb k row) Nothing (minute_at minutes refused k)
+  pub stored_refused : (k : ℕ) → minute_at minutes (set refused row true) k ≡ cond (eqb k row) None (minute_at minutes refused k)
   unfolding minute_at
   stored_refused k =
       cases (eqb k row) (λ t. simp (eqb-true k row t, eq-eqb row row refl, get_or-set_same refused row true false b))
@@ -102,7 +104,7 @@ pub record Run (o : Order) (minutes : List ℤ) (refused : List Bool) (suns : Ro
 
 -- after a row: its minute is stored too
 pub row_done : (o : Order) → Accepted o → (minutes after : List ℤ) (refused after' : List Bool) (suns : RowSuns) (row : ℕ)
-    → Run o minutes refused suns row → (fajr : FajrAlone) → fajr ≡ row_suns_fajr_of o.setting suns
+    → Run o minutes refused suns row → (fajr : Option ℤ) → fajr ≡ row_suns_fajr_of o.setting suns
     → ((k : ℕ) → minute_at after after' k ≡ cond (eqb k row) (minute_from fajr) (minute_at minutes refused k))
     → (k : ℕ) → k < row + 1 → minute_at after after' k ≡ row_minute o k
 row_done o a minutes after refused after' suns row r fajr f s =

@@ -8,17 +8,9 @@ ghost use Rattle.weeks.specs.Report.{row_minute};
 
 use calendar::instants::{MINUTES_IN_DAY, day_of, second_of_day};
 use order::reading::{MOST_ROWS, Order};
-use schedule::prayer_times::FajrAlone;
 use schedule::rolling::RowSuns;
 
 pub const ROWS: usize = MOST_ROWS as usize;
-
-// In minutes after the row's own 0h UTC, or nothing for a refused day.
-#[derive(Clone, Copy)]
-pub enum Minute {
-    Some(i64),
-    Nothing,
-}
 
 // Whole minutes, rounded down, also below zero.
 fn whole_minutes(seconds: i64) -> i64
@@ -27,17 +19,17 @@ fn whole_minutes(seconds: i64) -> i64
     day_of(seconds) * MINUTES_IN_DAY as i64 + (second_of_day(seconds) / 60) as i64
 }
 
-fn store(fajr: FajrAlone, row: usize, minutes: &mut [i64], refused: &mut [bool])
+fn store(fajr: Option<i64>, row: usize, minutes: &mut [i64], refused: &mut [bool])
     requires { (row < length minutes.old) × (row < length refused.old) }
     ensures { (k : ℕ) → minute_at minutes.new refused.new k
         ≡ cond (eqb k row) (minute_from fajr) (minute_at minutes.old refused.old k) }
 {
     match fajr {
-        FajrAlone::Some(seconds) => {
+        Some(seconds) => {
             minutes[row] = whole_minutes(seconds);
             refused[row] = false;
         }
-        FajrAlone::Nothing => refused[row] = true,
+        None => refused[row] = true,
     }
 }
 
@@ -64,12 +56,12 @@ pub fn work_minutes(order: Order, minutes: &mut [i64], refused: &mut [bool])
     }
 }
 
-pub fn minute_at(minutes: &[i64; ROWS], refused: &[bool; ROWS], row: usize) -> Minute
+pub fn minute_at(minutes: &[i64; ROWS], refused: &[bool; ROWS], row: usize) -> Option<i64>
     requires { row < most_rows }
     ensures { result ≡ minute_at minutes.now refused.now row }
 {
     if refused[row] {
-        return Minute::Nothing;
+        return None;
     }
-    Minute::Some(minutes[row])
+    Some(minutes[row])
 }

@@ -10,9 +10,8 @@ ghost use Rattle.weeks.specs.Report.{orders_report, week_text, longest_week};
 
 use super::line::put_window;
 use super::minutes::{ROWS, work_minutes};
-use super::window::Window;
 use lines::refused::put_refused_order;
-use order::reading::{Order, Reading, read};
+use order::reading::{Order, read};
 
 // Three digits of the first row; twice a blank, a minute, a blank and a row; and a newline.
 const LINE_BYTES: usize = 56;
@@ -34,7 +33,7 @@ fn put_windows(
     let mut first = 0;
     let mut end = 0;
     while first + 6 < rows {
-        let window = Window::new(minutes, refused, first);
+        let window = window_from(minutes, refused, first);
         end = put_window(&mut buffer[..], end, first, window);
         first = first + 1;
     }
@@ -62,7 +61,7 @@ pub fn write_week(order: &[u8], buffer: &mut [u8]) -> usize
         return 0;
     }
     match read(order) {
-        Reading::Read(order) => put_report(&mut buffer[..], order),
-        Reading::Refused(refusal) => put_refused_order(&mut buffer[..], 0, refusal),
+        Ok(order) => put_report(&mut buffer[..], order),
+        Err(refusal) => put_refused_order(&mut buffer[..], 0, refusal),
     }
 }

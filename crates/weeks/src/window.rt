@@ -4,7 +4,7 @@ ghost use Rattle.order.specs.Ranges.{most_rows};
 ghost use Rattle.weeks.specs.Kept.{minute_at};
 ghost use Rattle.weeks.specs.Windows.{begin_of, earlier_in, later_in, seen_of, window_of};
 
-use super::minutes::{Minute, ROWS, minute_at};
+use super::minutes::{ROWS, minute_at};
 
 #[derive(Clone, Copy)]
 pub struct Extremes {
@@ -12,13 +12,6 @@ pub struct Extremes {
     pub earliest_row: usize,
     pub latest: i64,
     pub latest_row: usize,
-}
-
-// Refused if one of its seven days is.
-#[derive(Clone, Copy)]
-pub enum Window {
-    Found(Extremes),
-    Refused,
 }
 
 impl Extremes {
@@ -47,46 +40,44 @@ impl Extremes {
     }
 }
 
-impl Window {
-    // The window after its first row.
-    fn begin(row: usize, minute: Minute) -> Window
-        ensures { result ≡ begin_of row minute }
-    {
-        match minute {
-            Minute::Some(m) => Window::Found(Extremes {
-                earliest: m,
-                earliest_row: row,
-                latest: m,
-                latest_row: row,
-            }),
-            Minute::Nothing => Window::Refused,
-        }
+// The window after its first row.
+fn begin(row: usize, minute: Option<i64>) -> Option<Extremes>
+    ensures { result ≡ begin_of row minute }
+{
+    match minute {
+        Some(m) => Some(Extremes {
+            earliest: m,
+            earliest_row: row,
+            latest: m,
+            latest_row: row,
+        }),
+        None => None,
     }
+}
 
-    // The window after one row more.
-    fn seen(self, row: usize, minute: Minute) -> Window
-        ensures { result ≡ seen_of self row minute }
-    {
-        match self {
-            Window::Found(found) => match minute {
-                Minute::Some(m) => Window::Found(found.with_earliest(row, m).with_latest(row, m)),
-                Minute::Nothing => Window::Refused,
-            },
-            Window::Refused => Window::Refused,
-        }
+// The window after one row more.
+fn seen(window: Option<Extremes>, row: usize, minute: Option<i64>) -> Option<Extremes>
+    ensures { result ≡ seen_of window row minute }
+{
+    match window {
+        Some(found) => match minute {
+            Some(m) => Some(found.with_earliest(row, m).with_latest(row, m)),
+            None => None,
+        },
+        None => None,
     }
+}
 
-    // The window of the seven rows from `first` on.
-    pub fn new(minutes: &[i64; ROWS], refused: &[bool; ROWS], first: usize) -> Window
-        requires { first + 7 ≤ most_rows }
-        ensures { result ≡ window_of (minute_at minutes.now refused.now) first }
-    {
-        let mut window = Window::begin(first, minute_at(minutes, refused, first));
-        let mut row = first + 1;
-        while row < first + 7 {
-            window = window.seen(row, minute_at(minutes, refused, row));
-            row = row + 1;
-        }
-        window
+// The window of the seven rows from `first` on.
+pub fn window_from(minutes: &[i64; ROWS], refused: &[bool; ROWS], first: usize) -> Option<Extremes>
+    requires { first + 7 ≤ most_rows }
+    ensures { result ≡ window_of (minute_at minutes.now refused.now) first }
+{
+    let mut window = begin(first, minute_at(minutes, refused, first));
+    let mut row = first + 1;
+    while row < first + 7 {
+        window = seen(window, row, minute_at(minutes, refused, row));
+        row = row + 1;
     }
+    window
 }

@@ -1,9 +1,9 @@
 -- Invariant: the cells of the first i times follow the row's first three cells.
+use Rattle.std.specs.Prelude.{Ok}
 use Rattle.prelude.proofs.Logic.{◌≡◌, refl, ap, ◌∙◌, ◌-◌, ◌≤◌, arith, pos, length, get_or, take, replicate, rules, w32, w64, to_z}
 use Rattle.integers.proofs.Ranges.{read_back, read}
 use Rattle.text.specs.Text.{put_of}
 use Rattle.braille.specs.Cells.{time_cells, times_cells, row_cells}
-use Rattle.schedule.specs.declared.prayer_times.Worked.TheVariants.{Times}
 use Rattle.braille.proofs.Parts.{times_none, time_put, day_put, row_done}
 use Rattle.braille.proofs.row.full_row.Goals as goal
 
@@ -44,4 +44,4 @@ returns c =
     let end : l.i ≡ 6 = omega (arith, l.invariant.0, c.loop-i-test.false) in
     let front = day_put a.date (replicate 39 0) put.new.buffer day.result refl day.ensures put.ensures in
     row_done a.date a.times (read_back w32 a.clock) six.result l.i put.new.buffer l.cells six.ensures end front
-    l.invariant.3 ∙ ap (row_cells a.date (Times a.times)) (read w32 a.clock t.ranges.clock)
+    l.invariant.3 ∙ ap (row_cells a.date (Ok a.times)) (read w32 a.clock t.ranges.clock)

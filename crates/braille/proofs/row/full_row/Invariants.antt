@@ -1,8 +1,8 @@
+use Rattle.std.specs.Prelude.{Ok}
 use Rattle.prelude.proofs.Logic.{◌≡◌, refl, ap, ◌∙◌, ◌-◌, ◌≤◌, arith, pos, length, get_or, take, replicate, rules, w32, w64, to_z}
 use Rattle.integers.proofs.Ranges.{read_back, read}
 use Rattle.text.specs.Text.{put_of}
 use Rattle.braille.specs.Cells.{time_cells, times_cells, row_cells}
-use Rattle.schedule.specs.declared.prayer_times.Worked.TheVariants.{Times}
 use Rattle.braille.proofs.Parts.{times_none, time_put, day_put, row_done}
 use Rattle.braille.proofs.row.full_row.Given as goal
 

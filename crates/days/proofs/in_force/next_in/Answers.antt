@@ -6,6 +6,6 @@ pub returns-in-Some : goal.returns-in-Some
 unfolding next_prayer_in
 returns-in-Some c = simp c.in-Some.is
 
-pub returns-in-Nothing : goal.returns-in-Nothing
+pub returns-in-None : goal.returns-in-None
 unfolding next_prayer_in
-returns-in-Nothing c = let e0 = c.none_in_force.ensures in simp (sym e0, c.in-Nothing.is)
+returns-in-None c = let e0 = c.none_in_force.ensures in simp (sym e0, c.in-None.is)

@@ -1,7 +1,7 @@
 -- The instant is asked first; then the answer is the day's.
+use Rattle.std.specs.Prelude.{Err}
 use Rattle.prelude.proofs.Logic.{◌≡◌, sym, ap, ◌∙◌, true, false, ℤ, rules, w64, SFits}
 use Rattle.integers.proofs.Ranges.{read}
-use Rattle.schedule.specs.declared.prayer_times.Worked.TheVariants as worked
 use Rattle.days.specs.Calls.{instant_of, instant_fits, work_at_of}
 use Rattle.days.proofs.in_force.work_at.Goals as goal
 
@@ -23,4 +23,4 @@ returns c =
     let asked = c.instant_fits.ensures
     ∙ ap (λ (z : ℤ). instant_fits (instant_of z i.nanoseconds)) (read w64 i.seconds held) in
     let f : instant_fits i ≡ false = sym asked ∙ c.if-instant_fits.false in
-    ap worked.Refused c.new.ensures ∙ simp f
+    ap Err c.new.ensures ∙ simp f

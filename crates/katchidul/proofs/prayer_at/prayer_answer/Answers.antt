@@ -6,6 +6,6 @@ pub returns-in-Prayer : goal.returns-in-Prayer
 unfolding prayer_answer_of
 returns-in-Prayer c = cc
 
-pub returns-in-Refused : goal.returns-in-Refused
+pub returns-in-Err : goal.returns-in-Err
 unfolding prayer_answer_of
-returns-in-Refused c = cc
+returns-in-Err c = cc

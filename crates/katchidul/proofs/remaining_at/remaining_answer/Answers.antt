@@ -6,6 +6,6 @@ pub returns-in-Time : goal.returns-in-Time
 unfolding remaining_answer_of
 returns-in-Time c = cc
 
-pub returns-in-Refused : goal.returns-in-Refused
+pub returns-in-Err : goal.returns-in-Err
 unfolding remaining_answer_of
-returns-in-Refused c = cc
+returns-in-Err c = cc

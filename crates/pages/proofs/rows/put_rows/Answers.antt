@@ -1,10 +1,13 @@
 -- Invariant: the suns are the row's, and the dots of the earlier rows are counted. These rows are in the buffer if it has room for all.
+use Rattle.std.specs.Prelude.{Result}
+use Rattle.schedule.specs.declared.prayer_times.PrayerTimes.{PrayerTimes}
+use Rattle.refusals.specs.declared.Refusal.{Refusal}
 use Rattle.prelude.proofs.Logic.{◌≡◌, refl, ap, ◌∙◌, ◌+◌, ◌-◌, ◌<◌, arith, rules, w32}
 use Rattle.braille.specs.Cells.{row_cells}
 use Rattle.calendar.specs.declared.dates.Date.{Date}
 use Rattle.days.proofs.RowStates.{next-state}
 use Rattle.integers.proofs.Ranges.{read}
-use Rattle.schedule.specs.{RowSuns.row_suns_of, RowSuns.next_row_suns_of, declared.prayer_times.Worked.Worked}
+use Rattle.schedule.specs.{RowSuns.row_suns_of, RowSuns.next_row_suns_of}
 use Rattle.pages.proofs.Rolled.{clock_fits_lem, Run, Behind, done_none, run_row}
 use Rattle.pages.proofs.rows.put_rows.Goals as goal
 
@@ -45,7 +48,7 @@ overflow_add-dots c =
     let k = read w32 o.clock (clock_fits_lem o p.0) in
     let m = run_row o c.args.row c.args.end p.0 p.2 c.args.buffer.now l.buffer l.suns l.next l.dots l.invariant
     _ put.new.buffer put.result _
-    (ap (λ (w : Worked). row_cells l.suns.date w o.clock) c.since_midnight-worked.ensures.0)
+    (ap (λ (w : Result PrayerTimes Refusal). row_cells l.suns.date w o.clock) c.since_midnight-worked.ensures.0)
     (rw k at put.ensures.value) refl
     (rw k at put.ensures.buffer_after) in
     omega (arith, m.2)
@@ -67,7 +70,7 @@ returns-then-next-end c =
     let k = read w32 o.clock (clock_fits_lem o p.0) in
     let m = run_row o c.args.row c.args.end p.0 p.2 c.args.buffer.now l.buffer l.suns l.next l.dots l.invariant
     _ put.new.buffer put.result _
-    (ap (λ (w : Worked). row_cells l.suns.date w o.clock) c.since_midnight-worked.ensures.0)
+    (ap (λ (w : Result PrayerTimes Refusal). row_cells l.suns.date w o.clock) c.since_midnight-worked.ensures.0)
     (rw k at put.ensures.value) refl
     (rw k at put.ensures.buffer_after) in
     let t = c in
@@ -90,7 +93,7 @@ loop-next-preserved c =
     let k = read w32 o.clock (clock_fits_lem o p.0) in
     let m = run_row o c.args.row c.args.end p.0 p.2 c.args.buffer.now l.buffer l.suns l.next l.dots l.invariant
     _ put.new.buffer put.result _
-    (ap (λ (w : Worked). row_cells l.suns.date w o.clock) c.since_midnight-worked.ensures.0)
+    (ap (λ (w : Result PrayerTimes Refusal). row_cells l.suns.date w o.clock) c.since_midnight-worked.ensures.0)
     (rw k at put.ensures.value) refl
     (rw k at put.ensures.buffer_after) in
     record {

@@ -13,7 +13,7 @@ returns-in-Some c =
     let f : SFits w32 c.in-Some.time = search rules in
     promised (held_as (of_wide _ f) (simp c.in-Some.is)) (lit≤ tt)
 
-pub returns-in-Nothing : goal.returns-in-Nothing
+pub returns-in-None : goal.returns-in-None
 unfolding or_of
-returns-in-Nothing c =
-    promised (held_as (of_i64 c.args.other c.ranges.other c.requires) (simp c.in-Nothing.is)) (lit≤ tt)
+returns-in-None c =
+    promised (held_as (of_i64 c.args.other c.ranges.other c.requires) (simp c.in-None.is)) (lit≤ tt)

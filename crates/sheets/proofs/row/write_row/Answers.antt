@@ -12,11 +12,11 @@ returns-then-buffer-lt-ROW_BYTES c =
       buffer_after = l.1;
     }
 
-pub returns-in-Read : goal.returns-in-Read
-returns-in-Read c =
+pub returns-in-Ok : goal.returns-in-Ok
+returns-in-Ok c =
     let a = c.args in
     let e = sym c.read.ensures
-    ∙ c.in-Read.is in
+    ∙ c.in-Ok.is in
     let l = row_read a.order.now a.buffer.now a.row
     c.if-buffer-lt-ROW_BYTES.false _ e in
     record {
@@ -24,8 +24,8 @@ returns-in-Read c =
       buffer_after = c.write_read.ensures.buffer_after ∙ l.1;
     }
 
-pub returns-in-Refused : goal.returns-in-Refused
-returns-in-Refused c =
+pub returns-in-Err : goal.returns-in-Err
+returns-in-Err c =
     let a = c.args in
-    let e = sym c.read.ensures ∙ c.in-Refused.is in
+    let e = sym c.read.ensures ∙ c.in-Err.is in
     let both = row-refused a.order.now a.buffer.now a.row c.if-buffer-lt-ROW_BYTES.false _ e in record { value = both.0; buffer_after = both.1 }

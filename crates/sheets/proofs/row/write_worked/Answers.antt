@@ -10,11 +10,11 @@ use Rattle.text.specs.Text.{put_of}
 use Rattle.sheets.specs.Rows.{worked_call_of}
 use Rattle.sheets.proofs.row.write_worked.Goals as goal
 
-pub returns-in-Times : goal.returns-in-Times
+pub returns-in-Ok : goal.returns-in-Ok
 unfolding worked_call_of started_in NearIn
-returns-in-Times c =
+returns-in-Ok c =
     let put = c.put_row in
-    let w = c.in-Times in
+    let w = c.in-Ok in
     let start = c in
     let a = start.args in
     let imsak : a.ramadan.imsak < 2 ^ 32 = search rules in
@@ -30,10 +30,10 @@ returns-in-Times c =
       buffer_after = simp w.is p;
     }
 
-pub returns-in-Refused : goal.returns-in-Refused
+pub returns-in-Err : goal.returns-in-Err
 unfolding worked_call_of started_in
-returns-in-Refused c =
-    let e = c.in-Refused.is in
+returns-in-Err c =
+    let e = c.in-Err.is in
     record {
       value = simp e;
       buffer_after = simp e;

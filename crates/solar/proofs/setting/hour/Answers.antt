@@ -1,6 +1,6 @@
 -- Minute 60 adds an hour. A sum of 24 has no time. Every other hour and minute is a second of its day.
+use Rattle.std.specs.Prelude.{Some}
 use Rattle.prelude.proofs.Logic.{ap, ◌∙◌, ◌+◌, ◌*◌, ◌<◌, rules, lt-ltb, le-ltb}
-use Rattle.solar.specs.declared.setting.SolarHour.TheVariants.{Some}
 use Rattle.solar.proofs.Cases as cases
 use Rattle.solar.specs.Setting.{hour_of}
 use Rattle.solar.proofs.setting.hour.Goals as goal

@@ -16,9 +16,9 @@ returns-in-Some c k =
     let room = c.requires in
     simp (given.is, ← is) (stored-minute a.minutes.now a.refused.now a.row room.1 _ room.0 k)
 
-pub returns-in-Nothing : goal.returns-in-Nothing
+pub returns-in-None : goal.returns-in-None
 unfolding minute_from
-returns-in-Nothing c k =
+returns-in-None c k =
     let a = c.args in
     let room = c.requires in
-    simp c.in-Nothing.is (stored_refused a.minutes.now a.refused.now a.row room.1 k)
+    simp c.in-None.is (stored_refused a.minutes.now a.refused.now a.row room.1 k)

@@ -1,12 +1,12 @@
 use Rattle.schedule.proofs.Schedule.{since_from, since_of, NearIn}
 use Rattle.schedule.proofs.hours.RowHours.since_midnight.Goals as goal
 
-pub returns-in-Whole : goal.returns-in-Whole
+pub returns-in-Ok : goal.returns-in-Ok
 unfolding since_from since_of NearIn
-returns-in-Whole c =
+returns-in-Ok c =
     let e = c.from_midnight.ensures in
-    (simp (e.0, c.in-Whole.is), e.1)
+    (simp (e.0, c.in-Ok.is), e.1)
 
-pub returns-in-Refused : goal.returns-in-Refused
+pub returns-in-Err : goal.returns-in-Err
 unfolding since_from since_of NearIn
-returns-in-Refused c = (simp c.in-Refused.is, tt)
+returns-in-Err c = (simp c.in-Err.is, tt)

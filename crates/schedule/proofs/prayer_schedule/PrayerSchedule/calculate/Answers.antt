@@ -1,6 +1,6 @@
 -- Date, place and parameters are tested in this order. With all three, the result is the first row of a run (`first_row`).
+use Rattle.std.specs.Prelude.{Some}
 use Rattle.prelude.proofs.Logic.{ap}
-use Rattle.schedule.specs.declared.prayer_schedule.Calculated.TheVariants.{Some}
 use Rattle.schedule.specs.Builder.{calculated_from}
 use Rattle.schedule.proofs.RowSunsLaws.{first_row}
 use Rattle.schedule.proofs.prayer_schedule.PrayerSchedule.calculate.Goals as goal

@@ -1,8 +1,9 @@
 -- Invariant: the last of the first n times that is due is the last of all eight that is due.
+use Rattle.std.specs.Prelude.{Some}
 use Rattle.prelude.proofs.Logic.{◌≡◌, refl, sym, ap, ◌∙◌, arith, ℤ, rules, w64}
 use Rattle.integers.proofs.Ranges.{read_back}
 use Rattle.models.specs.Numbers.{prayer_of}
-use Rattle.schedule.proofs.Schedule.{Some, ahead_of, time_of}
+use Rattle.schedule.proofs.Schedule.{ahead_of, time_of}
 use Rattle.schedule.proofs.Due as due
 use Rattle.schedule.proofs.prayer_times.PrayerTimes.current_time.Goals as goal
 use Rattle.schedule.proofs.prayer_times.PrayerTimes.current_time.Goals.{After-ahead}

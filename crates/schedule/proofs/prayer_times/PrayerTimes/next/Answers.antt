@@ -1,5 +1,6 @@
+use Rattle.std.specs.Prelude.{Some}
 use Rattle.prelude.proofs.Logic.{sym, ap, ◌∙◌}
-use Rattle.schedule.proofs.Schedule.{following_current_of, Some}
+use Rattle.schedule.proofs.Schedule.{following_current_of}
 use Rattle.schedule.proofs.prayer_times.PrayerTimes.next.Goals as goal
 
 pub returns-in-Some : goal.returns-in-Some
@@ -8,6 +9,6 @@ returns-in-Some c =
     ap Some c.following.ensures
     ∙ ap following_current_of (sym c.in-Some.is ∙ c.current_time.ensures)
 
-pub returns-in-Nothing : goal.returns-in-Nothing
+pub returns-in-None : goal.returns-in-None
 unfolding following_current_of
-returns-in-Nothing c = ap following_current_of (sym c.in-Nothing.is ∙ c.current_time.ensures)
+returns-in-None c = ap following_current_of (sym c.in-None.is ∙ c.current_time.ensures)

@@ -1,8 +1,8 @@
 -- The seconds to the next prayer, as hours and minutes; zeros if it has passed.
+use Rattle.std.specs.Prelude.{Some}
 use Rattle.prelude.proofs.Logic.{◌≡◌, sym, ap, ◌∙◌, ℤ, rules, w64}
 use Rattle.integers.proofs.Ranges.{read_back}
 use Rattle.schedule.proofs.Schedule.{ahead_of, hours_minutes_of, until_of}
-use Rattle.schedule.specs.declared.in_force.Remaining.TheVariants.{Some}
 use Rattle.schedule.proofs.prayer_times.PrayerTimes.time_remaining.Goals as goal
 
 pub returns-in-Some : goal.returns-in-Some
@@ -14,7 +14,7 @@ returns-in-Some c =
     ap Some (c.hours_minutes.ensures ∙ ap hours_minutes_of a)
     ∙ ap (until_of c.args.self c.args.instant) (sym c.in-Some.is ∙ c.next.ensures)
 
-pub returns-in-Nothing : goal.returns-in-Nothing
+pub returns-in-None : goal.returns-in-None
 unfolding until_of
-returns-in-Nothing c =
-    ap (until_of c.args.self c.args.instant) (sym c.in-Nothing.is ∙ c.next.ensures)
+returns-in-None c =
+    ap (until_of c.args.self c.args.instant) (sym c.in-None.is ∙ c.next.ensures)

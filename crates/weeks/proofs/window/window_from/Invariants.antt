@@ -1,7 +1,7 @@
 use Rattle.prelude.proofs.Logic.{◌+◌, ◌-◌, rules}
 use Rattle.weeks.specs.Kept.{minute_at}
 use Rattle.weeks.proofs.ReportLaws.{Looking, look-first, look-next, look-last}
-use Rattle.weeks.proofs.window.Window.new.Given as goal
+use Rattle.weeks.proofs.window.window_from.Given as goal
 
 abbrev pub invariant-loop-row : goal.invariant-loop-row
 invariant-loop-row l = Looking (minute_at l.minutes l.refused) l.first l.window l.row

@@ -2,7 +2,7 @@
 use Rattle.prelude.proofs.Logic.{◌+◌, ◌-◌, rules}
 use Rattle.weeks.specs.Kept.{minute_at}
 use Rattle.weeks.proofs.ReportLaws.{Looking, look-first, look-next, look-last}
-use Rattle.weeks.proofs.window.Window.new.Goals as goal
+use Rattle.weeks.proofs.window.window_from.Goals as goal
 
 pub loop-row-init : goal.loop-row-init
 loop-row-init c = rw (c.begin-window.ensures, c.minute_at.ensures) (look-first _ _)
