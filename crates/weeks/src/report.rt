@@ -10,6 +10,7 @@ ghost use Rattle.weeks.specs.Report.{orders_report, week_text, longest_week};
 
 use super::line::put_window;
 use super::minutes::{ROWS, work_minutes};
+use super::window::window_from;
 use lines::refused::put_refused_order;
 use order::reading::{Order, read};
 

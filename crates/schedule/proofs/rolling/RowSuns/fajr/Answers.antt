@@ -3,4 +3,4 @@ use Rattle.schedule.proofs.rolling.RowSuns.fajr.Goals as goal
 
 pub returns : goal.returns
 unfolding row_suns_fajr_of
-returns c = simp (c.fajr.ensures, c.suns.ensures, c.season-season.ensures)
+returns c = simp (c.fajr_alone.ensures, c.suns.ensures, c.season-season.ensures)
