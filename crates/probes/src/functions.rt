@@ -209,7 +209,7 @@ fn time(hour: Option<i32>) -> ProbeTime
     match hour {
         Some(seconds) => ProbeTime {
             found: true,
-            seconds: seconds,
+            seconds,
         },
         None => ProbeTime {
             found: false,
