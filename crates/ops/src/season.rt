@@ -1,5 +1,5 @@
 // ops.rs: the season, by which the MoonsightingCommittee method bounds Fajr and Isha.
-#![tactic(auto, unfolding(
+#![tactic(auto, using(crate::proofs::Between::le_is), unfolding(
 // A literal of the code is the decimal of the formula.
 float64::proofs::Floats::dec, float64::proofs::Floats::round, float64::proofs::Floats::of_bits,
 // Days.
@@ -155,7 +155,6 @@ fn interpolate_linearly(from: f64, to: f64, days: f64, lapsed: f64) -> f64
 }
 
 // The minutes on a day, by the six parts of the year.
-#[tactic(auto, using(crate::proofs::Between::le_is), unfolding(crate::specs::Season::twilight_adjustments_of, float64::proofs::Floats::dec, float64::proofs::Floats::round, float64::proofs::Floats::of_bits))]
 fn twilight_adjustments(values: TwilightAdjustmentValues, dyy: f64) -> f64
     ensures { result ≡ twilight_adjustments_of values dyy }
 {

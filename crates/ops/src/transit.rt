@@ -6,12 +6,16 @@
 float64::proofs::Floats::dec, float64::proofs::Floats::round, float64::proofs::Floats::of_bits,
 // Altitude, and the longitude counted to the west.
 crate::specs::Transit::altitude_of_celestial_body_of, crate::specs::Transit::west_of,
+// The approximate transit.
+crate::specs::Shared::transit_from_of, crate::specs::Transit::approximate_transit_of,
 // The transit.
-crate::specs::Shared::transit_from_of, crate::specs::Transit::approximate_transit_of, crate::specs::Transit::corrected_transit_of, crate::specs::Shared::course_transit_number_of,
+crate::specs::Transit::corrected_transit_of, crate::specs::Shared::course_transit_number_of,
 // The hour angle.
 crate::specs::Shared::hour_angle_of, crate::specs::Transit::hour_angle_at_of,
-// An arc, and the hour number that it gives.
-crate::specs::Shared::arc_to_sine_of, crate::specs::Shared::half_arc_of, crate::specs::Shared::hour_number_of, crate::specs::Shared::moved_transit_of,))]
+// An arc.
+crate::specs::Shared::arc_to_sine_of, crate::specs::Shared::half_arc_of,
+// The hour number that it gives.
+crate::specs::Shared::hour_number_of, crate::specs::Shared::moved_transit_of,))]
 
 ghost use Rattle.std.specs.Prelude.{◌≡◌};
 ghost use Rattle.ops.specs.Transit.{altitude_of_celestial_body_of, west_of, approximate_transit_of, corrected_transit_of};
