@@ -72,7 +72,6 @@ fn write(x: f64, coordinate: Coordinate) -> Written
     }
 }
 
-#[tactic(auto, using(crate::proofs::NearestLaws::owed))]
 pub fn write_latitude(x: f64) -> Written
     ensures value { result ≡ written_of map_latitude_tag most_latitude x }
     ensures owed { Owed map_latitude_tag most_latitude x result }
@@ -80,7 +79,6 @@ pub fn write_latitude(x: f64) -> Written
     write(x, Coordinate::LATITUDE)
 }
 
-#[tactic(auto, using(crate::proofs::NearestLaws::owed))]
 pub fn write_longitude(x: f64) -> Written
     ensures value { result ≡ written_of map_longitude_tag most_longitude x }
     ensures owed { Owed map_longitude_tag most_longitude x result }
