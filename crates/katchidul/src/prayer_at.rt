@@ -5,6 +5,7 @@ ghost use Rattle.katchidul.specs.Exports.{prayer_answer_of, prayer_got, next_ans
 ghost use Rattle.schedule.specs.InForce.{current_number_of};
 
 use days::in_force::{next_at, prayer_at};
+use models::numbered::Numbered;
 use models::prayer::Prayer;
 use refusals::Refusal;
 use schedule::in_force::Instant;

@@ -1,12 +1,13 @@
 // method.rs: the presets of the authorities.
-ghost use Rattle.std.specs.Prelude.{◌≡◌, get_or};
-ghost use Rattle.std.specs.Float.{nan};
+ghost use Rattle.std.specs.Prelude.{◌≡◌};
 ghost use Rattle.models.specs.Numbers.{method_number_of, method_of};
+ghost use Rattle.models.specs.NumbersLaws.{method_back};
 ghost use Rattle.models.specs.Builder.{configuration_of, set_method, set_method_adjustments};
 ghost use Rattle.models.specs.Settings.{parameters_new_of};
 ghost use Rattle.models.specs.Presets.{preset_of};
 
-use super::adjustments::TimeAdjustment;
+use super::adjustments::Adjustment;
+use super::numbered::Numbered;
 use super::parameters::{Configuration, Parameters};
 use super::rounding::Rounding;
 
@@ -40,173 +41,37 @@ pub enum Method {
 }
 
 impl Method {
-    // How many degrees the sun is below the horizon at Fajr and at Isha.
-    pub const MUSLIM_WORLD_LEAGUE_ANGLES: [f64; 2] = [18.0, 17.0];
-
-    pub const EGYPTIAN_ANGLES: [f64; 2] = [19.5, 17.5];
-
-    pub const KARACHI_ANGLES: [f64; 2] = [18.0, 18.0];
-
-    pub const UMM_AL_QURA_ANGLES: [f64; 2] = [18.5, 0.0];
-
-    pub const DUBAI_ANGLES: [f64; 2] = [18.2, 18.2];
-
-    pub const MOONSIGHTING_ANGLES: [f64; 2] = [18.0, 18.0];
-
-    pub const NORTH_AMERICA_ANGLES: [f64; 2] = [15.0, 15.0];
-
-    pub const KUWAIT_ANGLES: [f64; 2] = [18.0, 17.5];
-
-    pub const QATAR_ANGLES: [f64; 2] = [18.0, 0.0];
-
-    pub const SINGAPORE_ANGLES: [f64; 2] = [20.0, 18.0];
-
-    pub const TEHRAN_ANGLES: [f64; 2] = [17.7, 14.0];
-
-    pub const TURKEY_ANGLES: [f64; 2] = [18.0, 17.0];
-
-    pub const OTHER_ANGLES: [f64; 2] = [0.0, 0.0];
-
-    // The same at Maghrib.
-    pub const TEHRAN_MAGHRIB: f64 = 4.5;
-
-    // Minutes from Maghrib to Isha, in place of Isha's angle.
-    pub const UMM_AL_QURA_INTERVAL: i32 = 90;
-
-    pub const QATAR_INTERVAL: i32 = 90;
-
-    pub const SINGAPORE_ROUNDING: Rounding = Rounding::Up;
-
-    // Five methods move only Dhuhr, by a minute.
-    pub const DHUHR_MINUTES: TimeAdjustment = TimeAdjustment {
-        fajr: 0,
-        sunrise: 0,
-        dhuhr: 1,
-        asr: 0,
-        maghrib: 0,
-        isha: 0,
-    };
-
-    pub const DUBAI_MINUTES: TimeAdjustment = TimeAdjustment {
-        fajr: 0,
-        sunrise: -3,
-        dhuhr: 3,
-        asr: 3,
-        maghrib: 3,
-        isha: 0,
-    };
-
-    pub const MOONSIGHTING_MINUTES: TimeAdjustment = TimeAdjustment {
-        fajr: 0,
-        sunrise: 0,
-        dhuhr: 5,
-        asr: 0,
-        maghrib: 3,
-        isha: 0,
-    };
-
-    pub const TURKEY_MINUTES: TimeAdjustment = TimeAdjustment {
-        fajr: 0,
-        sunrise: -7,
-        dhuhr: 5,
-        asr: 4,
-        maghrib: 7,
-        isha: 0,
-    };
-
-    // The number by which an order names it.
-    pub fn number(self) -> u32
-        ensures { result ≡ method_number_of self }
-    {
-        match self {
-            Method::MuslimWorldLeague => 0,
-            Method::Egyptian => 1,
-            Method::Karachi => 2,
-            Method::UmmAlQura => 3,
-            Method::Dubai => 4,
-            Method::MoonsightingCommittee => 5,
-            Method::NorthAmerica => 6,
-            Method::Kuwait => 7,
-            Method::Qatar => 8,
-            Method::Singapore => 9,
-            Method::Tehran => 10,
-            Method::Turkey => 11,
-            Method::Other => 12,
-        }
-    }
-
-    // The cases by number.
-    pub const BY_NUMBER: [Method; 13] = [
-        Method::MuslimWorldLeague,
-        Method::Egyptian,
-        Method::Karachi,
-        Method::UmmAlQura,
-        Method::Dubai,
-        Method::MoonsightingCommittee,
-        Method::NorthAmerica,
-        Method::Kuwait,
-        Method::Qatar,
-        Method::Singapore,
-        Method::Tehran,
-        Method::Turkey,
-        Method::Other,
-    ];
-
-    // Inverse of `number`. Any other number gives the last case.
-    pub fn of_number(n: u32) -> Method
-        ensures { result ≡ method_of n }
-    {
-        if n < 13 {
-            Method::BY_NUMBER[n as usize]
-        } else {
-            Method::Other
-        }
-    }
-
-    fn preset(self, angles: [f64; 2], minutes: TimeAdjustment) -> Configuration
+    // The configuration by the Fajr and Isha angles, in degrees of the sun below the horizon, and the minutes.
+    fn preset(self, fajr_angle: f64, isha_angle: f64, minutes: Adjustment) -> Configuration
         ensures { result
-            ≡ set_method_adjustments (set_method (configuration_of (parameters_new_of (get_or angles 0 nan) (get_or angles 1 nan))) self) minutes }
+            ≡ set_method_adjustments (set_method (configuration_of (parameters_new_of fajr_angle isha_angle)) self) minutes.minutes }
     {
-        Configuration::new(angles[0], angles[1])
+        Configuration::new(fajr_angle, isha_angle)
             .method(self)
-            .method_adjustments(minutes)
+            .method_adjustments(minutes.done())
     }
 
-    // The method's constants put together. The rest is as in Parameters::new.
+    // One line for each method, as the definition has it. The rest is as in Parameters::new.
     fn configuration(self) -> Configuration
         ensures { result ≡ configuration_of (preset_of self) }
     {
+        let none = Adjustment::new();
         match self {
-            Method::MuslimWorldLeague => self.preset(
-                Method::MUSLIM_WORLD_LEAGUE_ANGLES,
-                Method::DHUHR_MINUTES,
-            ),
-            Method::Egyptian => self.preset(Method::EGYPTIAN_ANGLES, Method::DHUHR_MINUTES),
-            Method::Karachi => self.preset(Method::KARACHI_ANGLES, Method::DHUHR_MINUTES),
-            Method::UmmAlQura => self
-                .preset(Method::UMM_AL_QURA_ANGLES, TimeAdjustment::NONE)
-                .isha_interval(Method::UMM_AL_QURA_INTERVAL),
-            Method::Dubai => self.preset(Method::DUBAI_ANGLES, Method::DUBAI_MINUTES),
-            Method::MoonsightingCommittee => self.preset(
-                Method::MOONSIGHTING_ANGLES,
-                Method::MOONSIGHTING_MINUTES,
-            ),
-            Method::NorthAmerica => self.preset(
-                Method::NORTH_AMERICA_ANGLES,
-                Method::DHUHR_MINUTES,
-            ),
-            Method::Kuwait => self.preset(Method::KUWAIT_ANGLES, TimeAdjustment::NONE),
-            Method::Qatar => self
-                .preset(Method::QATAR_ANGLES, TimeAdjustment::NONE)
-                .isha_interval(Method::QATAR_INTERVAL),
+            Method::MuslimWorldLeague => self.preset(18.0, 17.0, none.dhuhr(1)),
+            Method::Egyptian => self.preset(19.5, 17.5, none.dhuhr(1)),
+            Method::Karachi => self.preset(18.0, 18.0, none.dhuhr(1)),
+            Method::UmmAlQura => self.preset(18.5, 0.0, none).isha_interval(90),
+            Method::Dubai => self.preset(18.2, 18.2, none.sunrise(-3).dhuhr(3).asr(3).maghrib(3)),
+            Method::MoonsightingCommittee => self.preset(18.0, 18.0, none.dhuhr(5).maghrib(3)),
+            Method::NorthAmerica => self.preset(15.0, 15.0, none.dhuhr(1)),
+            Method::Kuwait => self.preset(18.0, 17.5, none),
+            Method::Qatar => self.preset(18.0, 0.0, none).isha_interval(90),
             Method::Singapore => self
-                .preset(Method::SINGAPORE_ANGLES, Method::DHUHR_MINUTES)
-                .rounding(Method::SINGAPORE_ROUNDING),
-            Method::Tehran => self
-                .preset(Method::TEHRAN_ANGLES, TimeAdjustment::NONE)
-                .maghrib_angle(Method::TEHRAN_MAGHRIB),
-            Method::Turkey => self.preset(Method::TURKEY_ANGLES, Method::TURKEY_MINUTES),
-            Method::Other => self.preset(Method::OTHER_ANGLES, TimeAdjustment::NONE),
+                .preset(20.0, 18.0, none.dhuhr(1))
+                .rounding(Rounding::Up),
+            Method::Tehran => self.preset(17.7, 14.0, none).maghrib_angle(4.5),
+            Method::Turkey => self.preset(18.0, 17.0, none.sunrise(-7).dhuhr(5).asr(4).maghrib(7)),
+            Method::Other => self.preset(0.0, 0.0, none),
         }
     }
 
@@ -215,5 +80,36 @@ impl Method {
         ensures { result ≡ preset_of self }
     {
         self.configuration().done()
+    }
+}
+
+impl Numbered for Method {
+    ghost number_of = { method_number_of };
+
+    ghost case_of = { method_of };
+
+    ghost back = { method_back };
+
+    fn number(self) -> u32 {
+        self as u32
+    }
+
+    #[tactic(auto, unfolding(crate::specs::Numbers::method_of))]
+    fn of_number(n: u32) -> Method {
+        match n {
+            0 => Method::MuslimWorldLeague,
+            1 => Method::Egyptian,
+            2 => Method::Karachi,
+            3 => Method::UmmAlQura,
+            4 => Method::Dubai,
+            5 => Method::MoonsightingCommittee,
+            6 => Method::NorthAmerica,
+            7 => Method::Kuwait,
+            8 => Method::Qatar,
+            9 => Method::Singapore,
+            10 => Method::Tehran,
+            11 => Method::Turkey,
+            _ => Method::Other,
+        }
     }
 }

@@ -15,6 +15,7 @@ use models::adjustments::TimeAdjustment;
 use models::high_altitude_rule::HighLatitudeRule;
 use models::madhab::Madhab;
 use models::method::Method;
+use models::numbered::Numbered;
 use models::parameters::Parameters;
 use models::rounding::Rounding;
 use models::rules::{Midnight, Rules, Southern};

@@ -18,6 +18,7 @@ ghost use Rattle.solar.specs.Times.{solar_hour_of};
 ghost use Rattle.probes.specs.Functions.{probe_sun_of, probe_time_of};
 
 use calendar::dates::Date;
+use models::numbered::Numbered;
 use models::rules::Midnight;
 use models::shafaq::Shafaq;
 use ops::season::{

@@ -8,6 +8,7 @@ use super::prayer_times::PrayerTimes;
 use float64::casts::to_u32;
 use float64::whole::{round, trunc};
 use integers::parts::{above, below};
+use models::numbered::Numbered;
 use models::prayer::Prayer;
 use std::num::nearest_u64_to_f64;
 
