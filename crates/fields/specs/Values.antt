@@ -1,7 +1,8 @@
 -- Request 5's second pass, which collects, and what it gives by tag: document 01's column "missing" and its "that part of the order
 -- itself". If an order's form is right, a tag's part is the value of its first field, which is its only one (Lookup.antt).
-use Rattle.std.specs.Prelude.{ℕ, zero, suc, ◌+◌, List, Bool, cond, length, take, drop, get_or, set, replicate, ltb, Result}
+use Rattle.std.specs.Prelude.{ℕ, zero, suc, ◌+◌, List, Bool, cond, length, take, drop, get_or, set, replicate, ltb, Result, Option, Some, None}
 use Rattle.fields.specs.declared.values.Fields.{Fields}
+use Rattle.fields.specs.declared.values.Given.{Given}
 use Rattle.fields.specs.declared.values.Part.{Part}
 use Rattle.fields.specs.Fields.{header_length, length_at, next_field_at, check_of}
 use Rattle.fields.specs.Numbers.{byte_of}
@@ -57,6 +58,13 @@ pub record Values : Type 0 where
 
 unfoldable pub values_in : List ℕ → Fields → Values
 values_in s fields = record { has = has_in fields; value = λ tag. part_in s (part_for fields tag); part = part_for fields }
+
+-- the value of a tag, if it is there
+abbrev pub get_in : Values → ℕ → Option (List ℕ)
+get_in v tag = cond (v.has tag) (Some (v.value tag)) None
+
+abbrev pub given_by : Given → Values
+given_by given = values_in given.order.now given.fields.now
 
 abbrev pub values_of : List ℕ → Values
 values_of s = values_in s (fields_of s)

@@ -1,7 +1,8 @@
 // What an order's fields give: by tag, the part of the order that is the tag's value. After the fields are collected, reading uses nothing
 // else.
 ghost use Rattle.std.specs.Prelude.{◌≡◌};
-ghost use Rattle.fields.specs.Values.{no_part, no_fields, has_in, part_for, part_in, values_in};
+ghost use Rattle.std.specs.Option.{option_copied};
+ghost use Rattle.fields.specs.Values.{no_part, no_fields, has_in, part_for, part_in, get_in, given_by};
 
 use super::tags::TAGS;
 
@@ -55,9 +56,44 @@ pub fn bytes(order: &[u8], part: Part) -> &[u8]
     &rest[..rest.len().min(part.length as usize)]
 }
 
-// The bytes of a tag's value; none if the tag is missing.
-pub fn value<'a>(order: &'a [u8], fields: &Fields, tag: u32) -> &'a [u8]
-    ensures { result.now ≡ (values_in order.now fields.now).value tag }
-{
-    bytes(order, fields.part(tag))
+// An order with its fields.
+#[derive(Clone, Copy)]
+pub struct Given<'a> {
+    pub order: &'a [u8],
+    pub fields: &'a Fields,
+}
+
+impl<'a> Given<'a> {
+    #[tactic(auto, unfolding(crate::specs::Values::values_in))]
+    pub fn has(self, tag: u32) -> bool
+        ensures { result ≡ (given_by self.entry).has tag }
+    {
+        self.fields.has(tag)
+    }
+
+    #[tactic(auto, unfolding(crate::specs::Values::values_in))]
+    pub fn part(self, tag: u32) -> Part
+        ensures { result ≡ (given_by self.entry).part tag }
+    {
+        self.fields.part(tag)
+    }
+
+    // The bytes of a tag's value; none if the tag is missing.
+    #[tactic(auto, unfolding(crate::specs::Values::values_in))]
+    pub fn value(self, tag: u32) -> &'a [u8]
+        ensures { result.now ≡ (given_by self.entry).value tag }
+    {
+        bytes(self.order, self.part(tag))
+    }
+
+    // The bytes of a tag's value, if the order has the tag.
+    pub fn get(self, tag: u32) -> Option<&'a [u8]>
+        ensures { option_copied result ≡ get_in (given_by self.entry) tag }
+    {
+        if self.has(tag) {
+            Some(self.value(tag))
+        } else {
+            None
+        }
+    }
 }

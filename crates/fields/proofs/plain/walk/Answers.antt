@@ -1,13 +1,13 @@
 -- Invariant: with the tags seen, the definition gives from here on what it gives from the start.
-use Rattle.std.specs.Prelude.{Err, Ok}
+use Rattle.std.specs.Prelude.{Err}
 use Rattle.std.proofs.lemmas.Result.{err_from_is_err_and}
-use Rattle.prelude.proofs.Logic.{◌≡◌, sym, ap, ◌∙◌, length}
+use Rattle.prelude.proofs.Logic.{◌≡◌, sym, ap, ◌∙◌}
 use Rattle.refusals.specs.Refusals.{unless_refused}
 use Rattle.refusals.specs.declared.Refusal.{Refusal}
-use Rattle.refusals.proofs.Refused.{refuses, refuses_not}
-use Rattle.fields.specs.Fields.{fault_of, walk_of}
+use Rattle.refusals.proofs.Refused.{refuses}
+use Rattle.fields.specs.Fields.{fault_of}
 use Rattle.fields.proofs.FieldsLaws.{fault_none, good_row}
-use Rattle.fields.proofs.Collecting.{none_seen, check_first, field-passes, field-refused, checked-stop, checked-end, checked-on}
+use Rattle.fields.proofs.Collecting.{check_first, field-passes, field-refused, checked-stop, checked-end, checked-on}
 use Rattle.fields.proofs.plain.walk.Goals as goal
 use Rattle.fields.proofs.plain.walk.Goals.{In_ok-check_field}
 
