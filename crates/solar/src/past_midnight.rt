@@ -21,14 +21,11 @@ fn next_midnight(ahead: u8) -> Option<i32>
 }
 
 // The time by the source's rule. If that has none, the hour came to 24, and the time is the next midnight.
+#[tactic(auto, using(crate::proofs::PastMidnightLaws::carry_from))]
 fn carried(p: Placed, minute: u32) -> Option<i32>
     ensures { result ≡ carried_of p minute }
 {
-    let ahead = p.ahead;
-    match hour(p, minute) {
-        Some(time) => Some(time),
-        None => next_midnight(ahead),
-    }
+    hour(p, minute).or(next_midnight(p.ahead))
 }
 
 // The time of an hour number, if it has one. A number in the range that is not normal is zero or subnormal.

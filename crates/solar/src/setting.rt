@@ -8,7 +8,8 @@ use float64::casts::to_u32;
 use float64::sizes::is_normal;
 use float64::whole::{floor, round};
 
-// An hour of yesterday (0), of the date (1) or of tomorrow (2).
+// An hour of yesterday (0), of the date (1) or of tomorrow (2). A number and no enum: code, definitions and the sentences of
+// CarriesPastMidnight multiply it by the seconds of a day.
 #[derive(Clone, Copy)]
 pub struct Placed {
     pub ahead: u8,
@@ -69,8 +70,7 @@ fn date_minute(value: f64, calculated_hours: f64) -> u32
 pub(crate) fn hour(p: Placed, minute: u32) -> Option<i32>
     ensures { result ≡ hour_of p minute }
 {
-    let ahead = p.ahead;
-    let hour = p.hour;
+    let Placed { ahead, hour } = p;
     if minute < 60 {
         if hour < 24 {
             let n = (ahead as u32) * 86400 + hour * 3600 + minute * 60;

@@ -1,8 +1,8 @@
 // solar.rs: the times of the sun on a day, each in seconds from 0h of its date. If the source's SolarTime::new would panic, the day lacks a
-// time and is refused with a number.
+// time, and the result says which.
 ghost use Rattle.std.specs.Prelude.{◌≡◌};
 ghost use Rattle.solar.specs.Hours.{sun_on};
-ghost use Rattle.solar.specs.Times.{solar_hour_of, day_of, solar_time_of, time_for_solar_angle_of, afternoon_of};
+ghost use Rattle.solar.specs.Times.{missing_number_of, solar_hour_of, day_of, solar_time_of, time_for_solar_angle_of, afternoon_of};
 
 use super::hours::{HourNumbers, afternoon_number, angle_number, date_course};
 use super::past_midnight::carried_hour;
@@ -29,28 +29,45 @@ pub struct SolarTime {
     pub sunset: i32,
 }
 
+// The time that a day lacks.
+#[derive(Clone, Copy)]
+pub enum Missing {
+    Transit,
+    Sunrise,
+    Sunset,
+}
+
+impl Missing {
+    // The number of its refusal.
+    pub fn number(self) -> u32
+        ensures { result ≡ missing_number_of self }
+    {
+        match self {
+            Missing::Transit => NO_TRANSIT,
+            Missing::Sunrise => NO_SUNRISE,
+            Missing::Sunset => NO_SUNSET,
+        }
+    }
+}
+
 // The three times, or the first that is missing.
-fn day(transit: Option<i32>, sunrise: Option<i32>, sunset: Option<i32>) -> Result<SolarTime, u32>
+#[tactic(auto, unfolding(crate::specs::Times::day_of))]
+fn day(
+    transit: Option<i32>,
+    sunrise: Option<i32>,
+    sunset: Option<i32>,
+) -> Result<SolarTime, Missing>
     ensures { result ≡ day_of transit sunrise sunset }
 {
-    let Some(transit) = transit else {
-        return Err(NO_TRANSIT);
-    };
-    let Some(sunrise) = sunrise else {
-        return Err(NO_SUNRISE);
-    };
-    let Some(sunset) = sunset else {
-        return Err(NO_SUNSET);
-    };
     Ok(SolarTime {
-        transit: transit,
-        sunrise: sunrise,
-        sunset: sunset,
+        transit: transit.ok_or(Missing::Transit)?,
+        sunrise: sunrise.ok_or(Missing::Sunrise)?,
+        sunset: sunset.ok_or(Missing::Sunset)?,
     })
 }
 
 impl SolarTime {
-    pub fn new(rule: Midnight, numbers: HourNumbers) -> Result<SolarTime, u32>
+    pub fn new(rule: Midnight, numbers: HourNumbers) -> Result<SolarTime, Missing>
         ensures { result ≡ solar_time_of rule numbers }
     {
         day(
