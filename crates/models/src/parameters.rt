@@ -65,10 +65,10 @@ impl Parameters {
         ensures { result ≡ parameters_new_of fajr_angle isha_angle }
     {
         Parameters {
+            method: Method::Other,
             fajr_angle,
             maghrib_angle: 0.0,
             isha_angle,
-            method: Method::Other,
             isha_interval: 0,
             madhab: Madhab::Shafi,
             high_latitude_rule: HighLatitudeRule::MiddleOfTheNight,

@@ -34,7 +34,7 @@ pub enum Name {
 }
 
 impl Name {
-    // Seven letters: a shorter name has blanks behind it.
+    // Seven letters: a shorter name has blanks behind it. No `&str`: the contract, `letters_of`, has the blanks.
     pub fn letters(self) -> [u8; 7]
         ensures { result ≡ letters_of self }
     {

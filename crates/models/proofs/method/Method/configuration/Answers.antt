@@ -1,3 +1,4 @@
+-- Each case by its definition. They are answers because an attribute that unfolds all of this is longer than a line may be.
 use Rattle.prelude.proofs.Logic.{rules}
 use Rattle.float64.proofs.Floats.{round, of_bits, dec}
 use Rattle.models.proofs.Models.{set_isha_interval, preset_of, preset, parameters_new_of}
