@@ -14,8 +14,7 @@ use schedule::rolling::RowSuns;
 pub fn work_date(order: Order, date: Date) -> Result<PrayerTimes, Refusal>
     ensures { result ≡ work_date_of order date }
 {
-    let setting = order.setting;
-    RowSuns::new(date, setting).work(setting)
+    RowSuns::new(date, order.setting).work(order.setting)
 }
 
 // The same in seconds from 0h of the date.
@@ -33,22 +32,20 @@ pub fn lacks_row() -> Refusal
 }
 
 // Rows count from 0.
+#[tactic(auto, unfolding(crate::specs::Calls::work_row_of))]
 pub fn work_row(order: Order, row: u32) -> Result<PrayerTimes, Refusal>
     ensures { result ≡ work_row_of order row }
 {
     if row < order.rows {
-        let first = order.date;
-        return work_date(order, first.row(row));
+        return work_date(order, order.date.row(row));
     }
     Err(lacks_row())
 }
 
 // The nine times of a row's date, or the refusal of the order, of the row or of the day.
+#[tactic(auto, unfolding(crate::specs::Calls::work_day_of, crate::specs::Calls::work_reading_of))]
 pub fn work_day(order: &[u8], row: u32) -> Result<PrayerTimes, Refusal>
     ensures { result ≡ work_day_of order.now row }
 {
-    match read(order) {
-        Ok(order) => work_row(order, row),
-        Err(refusal) => Err(refusal),
-    }
+    work_row(read(order)?, row)
 }

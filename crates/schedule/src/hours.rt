@@ -1,11 +1,11 @@
 // The hour numbers that a row's times are worked from, and the sun's times that they give.
 ghost use Rattle.std.specs.Prelude.{◌≡◌};
-ghost use Rattle.schedule.specs.Hours.{suns_of, hours_of};
+ghost use Rattle.schedule.specs.Hours.{sun_of, suns_of, hours_of};
 
 use models::rules::Midnight;
 use refusals::Refusal;
 use solar::hours::HourNumbers;
-use solar::times::{SolarTime, solar_hour};
+use solar::times::{Missing, SolarTime, solar_hour};
 
 // The numbers of the date and of the two dates after it, of the date's Fajr, Asr and Isha, and of the next date's Fajr.
 #[repr(C)]
@@ -38,33 +38,34 @@ pub struct RowHours {
     pub fajr_tomorrow: Option<i32>,
 }
 
+// A day's times, or its refusal: 6, 7 or 8, with the day, 0, 1 or 2, as its place.
+#[tactic(auto, unfolding(crate::specs::Hours::sun_of))]
+fn sun(times: Result<SolarTime, Missing>, day: u32) -> Result<SolarTime, Refusal>
+    ensures { result ≡ sun_of times day }
+{
+    times.map_err(|missing| Refusal::new(missing.number(), day))
+}
+
 impl ThreeSuns {
-    // The three days, or the refusal of the first that lacks a time: 6, 7 or 8, with the day, 0, 1 or 2, as its place.
+    // The three days, or the refusal of the first that lacks a time.
+    #[tactic(auto, unfolding(crate::specs::Hours::suns_of, crate::specs::Hours::sun_of))]
     pub fn new(
-        today: Result<SolarTime, u32>,
-        tomorrow: Result<SolarTime, u32>,
-        after: Result<SolarTime, u32>,
+        today: Result<SolarTime, Missing>,
+        tomorrow: Result<SolarTime, Missing>,
+        after: Result<SolarTime, Missing>,
     ) -> Result<ThreeSuns, Refusal>
         ensures { result ≡ suns_of today tomorrow after }
     {
-        match today {
-            Err(number) => Err(Refusal::new(number, 0)),
-            Ok(first) => match tomorrow {
-                Err(number) => Err(Refusal::new(number, 1)),
-                Ok(second) => match after {
-                    Err(number) => Err(Refusal::new(number, 2)),
-                    Ok(third) => Ok(ThreeSuns {
-                        today: first,
-                        tomorrow: second,
-                        after: third,
-                    }),
-                },
-            },
-        }
+        Ok(ThreeSuns {
+            today: sun(today, 0)?,
+            tomorrow: sun(tomorrow, 1)?,
+            after: sun(after, 2)?,
+        })
     }
 }
 
 impl RowHours {
+    #[tactic(auto, unfolding(crate::specs::Hours::hours_of))]
     pub fn new(rule: Midnight, numbers: RowNumbers) -> RowHours
         ensures { result ≡ hours_of rule numbers }
     {

@@ -1,4 +1,4 @@
-// schedule.rs: the builder of a date's times, by value. Each of the crate's three `Option`s is an enum.
+// schedule.rs: the builder of a date's times, by value.
 ghost use Rattle.std.specs.Prelude.{◌≡◌};
 ghost use Rattle.schedule.specs.Builder.{no_schedule, on_of, for_location_of, with_configuration_of, calculate_of};
 
@@ -32,57 +32,38 @@ impl PrayerSchedule {
     pub fn on(self, date: Date) -> PrayerSchedule
         ensures { result ≡ on_of self date }
     {
-        let coordinates = self.coordinates;
-        let params = self.params;
         PrayerSchedule {
             date: Some(date),
-            coordinates: coordinates,
-            params: params,
+            ..self
         }
     }
 
     pub fn for_location(self, location: Coordinates) -> PrayerSchedule
         ensures { result ≡ for_location_of self location }
     {
-        let date = self.date;
-        let params = self.params;
         PrayerSchedule {
-            date: date,
             coordinates: Some(location),
-            params: params,
+            ..self
         }
     }
 
     pub fn with_configuration(self, params: Parameters) -> PrayerSchedule
         ensures { result ≡ with_configuration_of self params }
     {
-        let date = self.date;
-        let coordinates = self.coordinates;
         PrayerSchedule {
-            date: date,
-            coordinates: coordinates,
             params: Some(params),
+            ..self
         }
     }
 
+    #[tactic(auto, unfolding(crate::specs::Builder::calculated_from))]
     pub fn calculate(self) -> Option<Result<PrayerTimes, Refusal>>
         ensures { result ≡ calculate_of self }
     {
-        let date = self.date;
-        let place = self.coordinates;
-        let params = self.params;
-        let Some(date) = date else {
-            return None;
-        };
-        let Some(coordinates) = place else {
-            return None;
-        };
-        let Some(parameters) = params else {
-            return None;
-        };
+        let date = self.date?;
         let setting = Setting {
-            coordinates: coordinates,
-            parameters: parameters,
+            coordinates: self.coordinates?,
+            parameters: self.params?,
             rules: Rules::source(),
         };
         Some(RowSuns::new(date, setting).work(setting))

@@ -12,7 +12,7 @@ ghost use Rattle.schedule.specs.Each.{Each, NearIn};
 ghost use Rattle.schedule.specs.Twilight.{unadjusted_fajr_of};
 
 use super::hours::{RowHours, RowNumbers, ThreeSuns};
-use super::twilight::{or, unadjusted_fajr, unadjusted_isha};
+use super::twilight::{Day, or};
 use calendar::dates::Date;
 use models::parameters::Parameters;
 use models::prayer::Prayer;
@@ -57,21 +57,6 @@ fn final_time(parameters: Parameters, prayer: Prayer, time: i64, rounding: Round
     )
 }
 
-// Tomorrow's Fajr is adjusted but not rounded.
-fn next_fajr(
-    parameters: Parameters,
-    season: Season,
-    date: Date,
-    tomorrow: SolarTime,
-    after: SolarTime,
-    hour: Option<i32>,
-) -> i64
-    ensures { (result ≡ fajr_tomorrow_of parameters season date tomorrow after hour) × Near (2 ^ 41) result }
-{
-    let fajr = unadjusted_fajr(parameters, season, date.tomorrow(), tomorrow, after, hour);
-    final_time(parameters, Prayer::Fajr, fajr, Rounding::None) + 86400
-}
-
 // The time `seconds` after maghrib, to the nearest minute.
 fn into_the_night(maghrib: i64, seconds: i64) -> i64
     requires { Near (2 ^ 40) maghrib × Near (2 ^ 42) seconds }
@@ -92,61 +77,61 @@ fn calculate_qiyam(maghrib: i64, fajr: i64) -> Night
     }
 }
 
-// The nine times, in seconds from 0h of the date.
-fn from_midnight(
-    parameters: Parameters,
-    season: Season,
-    date: Date,
-    suns: ThreeSuns,
-    hours: RowHours,
-) -> PrayerTimes
-    ensures { (result ≡ from_midnight_of parameters season date suns hours) × Each (Near (2 ^ 43)) result }
-{
-    let rounding = parameters.rounding;
-    let today = suns.today;
-    let tomorrow = suns.tomorrow;
-    let hour = hours.fajr;
-    let afternoon = hours.asr;
-    let evening = hours.isha;
-    let next = hours.fajr_tomorrow;
-    let sunrise = today.sunrise as i64;
-    let transit = today.transit as i64;
-    let sunset = today.sunset as i64;
-    let fajr = unadjusted_fajr(parameters, season, date, today, tomorrow, hour);
-    let asr = or(afternoon, transit);
-    let isha = unadjusted_isha(parameters, season, date, today, tomorrow, evening);
-    let maghrib = final_time(parameters, Prayer::Maghrib, sunset, rounding);
-    let fajr_tomorrow = next_fajr(parameters, season, date, tomorrow, suns.after, next);
-    let night = calculate_qiyam(maghrib, fajr_tomorrow);
-    PrayerTimes {
-        fajr: final_time(parameters, Prayer::Fajr, fajr, rounding),
-        sunrise: final_time(parameters, Prayer::Sunrise, sunrise, rounding),
-        dhuhr: final_time(parameters, Prayer::Dhuhr, transit, rounding),
-        asr: final_time(parameters, Prayer::Asr, asr, rounding),
-        maghrib: maghrib,
-        isha: final_time(parameters, Prayer::Isha, isha, rounding),
-        middle_of_the_night: night.middle,
-        qiyam: night.last_third,
-        fajr_tomorrow: fajr_tomorrow,
+impl Day {
+    // Tomorrow's Fajr is adjusted but not rounded.
+    fn next_fajr(self, tomorrow: SolarTime, after: SolarTime, hour: Option<i32>) -> i64
+        ensures { (result ≡ fajr_tomorrow_of self.parameters self.season self.date tomorrow after hour) × Near (2 ^ 41) result }
+    {
+        let next = Day {
+            date: self.date.tomorrow(),
+            ..self
+        };
+        let fajr = next.unadjusted_fajr(tomorrow, after, hour);
+        final_time(self.parameters, Prayer::Fajr, fajr, Rounding::None) + 86400
+    }
+
+    // The nine times, in seconds from 0h of the date.
+    fn from_midnight(self, suns: ThreeSuns, hours: RowHours) -> PrayerTimes
+        ensures { (result ≡ from_midnight_of self.parameters self.season self.date suns hours) × Each (Near (2 ^ 43)) result }
+    {
+        let parameters = self.parameters;
+        let rounding = parameters.rounding;
+        let today = suns.today;
+        let tomorrow = suns.tomorrow;
+        let sunrise = i64::from(today.sunrise);
+        let transit = i64::from(today.transit);
+        let sunset = i64::from(today.sunset);
+        let fajr = self.unadjusted_fajr(today, tomorrow, hours.fajr);
+        let asr = or(hours.asr, transit);
+        let isha = self.unadjusted_isha(today, tomorrow, hours.isha);
+        let maghrib = final_time(parameters, Prayer::Maghrib, sunset, rounding);
+        let fajr_tomorrow = self.next_fajr(tomorrow, suns.after, hours.fajr_tomorrow);
+        let night = calculate_qiyam(maghrib, fajr_tomorrow);
+        PrayerTimes {
+            fajr: final_time(parameters, Prayer::Fajr, fajr, rounding),
+            sunrise: final_time(parameters, Prayer::Sunrise, sunrise, rounding),
+            dhuhr: final_time(parameters, Prayer::Dhuhr, transit, rounding),
+            asr: final_time(parameters, Prayer::Asr, asr, rounding),
+            maghrib,
+            isha: final_time(parameters, Prayer::Isha, isha, rounding),
+            middle_of_the_night: night.middle,
+            qiyam: night.last_third,
+            fajr_tomorrow,
+        }
+    }
+
+    // The Fajr of the nine times. The other eight are not worked.
+    fn final_fajr(self, suns: ThreeSuns, hour: Option<i32>) -> i64
+        ensures { result ≡ final_of self.parameters Fajr (unadjusted_fajr_of self.parameters self.season self.date suns.today suns.tomorrow hour) }
+    {
+        let parameters = self.parameters;
+        let fajr = self.unadjusted_fajr(suns.today, suns.tomorrow, hour);
+        final_time(parameters, Prayer::Fajr, fajr, parameters.rounding)
     }
 }
 
-// The Fajr of the nine times. The other eight are not worked.
-fn final_fajr(
-    parameters: Parameters,
-    season: Season,
-    date: Date,
-    suns: ThreeSuns,
-    hour: Option<i32>,
-) -> i64
-    ensures { result ≡ final_of parameters Fajr (unadjusted_fajr_of parameters season date suns.today suns.tomorrow hour) }
-{
-    let rule = parameters.rounding;
-    let fajr = unadjusted_fajr(parameters, season, date, suns.today, suns.tomorrow, hour);
-    final_time(parameters, Prayer::Fajr, fajr, rule)
-}
-
 // 0h of a date, in seconds from 1970-01-01 0h UTC.
+#[tactic(auto, unfolding(crate::specs::Times::start_of))]
 fn start(date: Date) -> i64
     ensures { (result ≡ start_of date) × Near (2 ^ 58) result }
 {
@@ -154,6 +139,7 @@ fn start(date: Date) -> i64
 }
 
 // The nine times, in seconds from 1970-01-01 0h UTC.
+#[tactic(auto, unfolding(crate::specs::Times::started_of))]
 fn started(date: Date, times: PrayerTimes) -> PrayerTimes
     requires { Each (Near (2 ^ 43)) times }
     ensures { result ≡ started_of (start_of date) times }
@@ -174,6 +160,7 @@ fn started(date: Date, times: PrayerTimes) -> PrayerTimes
 
 impl RowHours {
     // The nine in seconds from 0h of the date, or its refusal.
+    #[tactic(auto, unfolding(crate::specs::Times::since_of, crate::specs::Times::since_from, crate::specs::Each::NearIn))]
     pub fn since_midnight(
         self,
         date: Date,
@@ -182,14 +169,16 @@ impl RowHours {
     ) -> Result<PrayerTimes, Refusal>
         ensures { (result ≡ since_of self date season parameters) × NearIn result }
     {
-        let suns = self.suns;
-        match suns {
-            Ok(three) => { Ok(from_midnight(parameters, season, date, three, self)) }
-            Err(refusal) => Err(refusal),
-        }
+        let day = Day {
+            parameters,
+            season,
+            date,
+        };
+        Ok(day.from_midnight(self.suns?, self))
     }
 
     // The nine times of a date, or its refusal.
+    #[tactic(auto, unfolding(crate::specs::Times::started_in, crate::specs::Each::NearIn))]
     pub fn work(
         self,
         date: Date,
@@ -198,14 +187,13 @@ impl RowHours {
     ) -> Result<PrayerTimes, Refusal>
         ensures { result ≡ worked_of self date season parameters }
     {
-        match self.since_midnight(date, season, parameters) {
-            Ok(times) => Ok(started(date, times)),
-            Err(refusal) => Err(refusal),
-        }
+        let times = self.since_midnight(date, season, parameters)?;
+        Ok(started(date, times))
     }
 }
 
 // Works the Fajr of `date` and none of its other times, in seconds from 0h of the date. `date` is the first of the three dates of these suns.
+#[tactic(auto, unfolding(crate::specs::Fajr::fajr_alone_of))]
 pub fn fajr_alone(
     suns: Result<ThreeSuns, Refusal>,
     date: Date,
@@ -215,10 +203,12 @@ pub fn fajr_alone(
 ) -> Option<i64>
     ensures { result ≡ fajr_alone_of suns date season parameters hour }
 {
-    match suns {
-        Ok(three) => Some(final_fajr(parameters, season, date, three, hour)),
-        Err(_) => None,
-    }
+    let day = Day {
+        parameters,
+        season,
+        date,
+    };
+    Some(day.final_fajr(suns.ok()?, hour))
 }
 
 impl PrayerTimes {
@@ -238,9 +228,10 @@ impl PrayerTimes {
     pub fn new(numbers: RowNumbers, date: Date, setting: Setting) -> Result<PrayerTimes, Refusal>
         ensures { result ≡ worked_by numbers date setting }
     {
-        let rules = setting.rules;
-        let midnight = rules.midnight;
-        let hours = RowHours::new(midnight, numbers);
-        hours.work(date, setting.season(), setting.parameters)
+        RowHours::new(setting.rules.midnight, numbers).work(
+            date,
+            setting.season(),
+            setting.parameters,
+        )
     }
 }

@@ -7,6 +7,7 @@ use float64::sizes::is_normal;
 use float64::whole::floor;
 
 // Whether a number is from -24 to below 48. False for a NaN.
+#[tactic(auto, unfolding(crate::specs::PastMidnight::has_time_of, float64::proofs::Floats::dec, float64::proofs::Floats::round, float64::proofs::Floats::of_bits))]
 fn has_time(value: f64) -> bool
     ensures { result ≡ has_time_of value }
 {
@@ -29,6 +30,7 @@ fn carried(p: Placed, minute: u32) -> Option<i32>
 }
 
 // The time of an hour number, if it has one. A number in the range that is not normal is zero or subnormal.
+#[tactic(auto, unfolding(crate::specs::PastMidnight::carried_hour_of))]
 pub fn carried_hour(value: f64) -> Option<i32>
     ensures { result ≡ carried_hour_of value }
 {

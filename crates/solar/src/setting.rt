@@ -17,6 +17,7 @@ pub struct Placed {
 }
 
 // The hour as one of yesterday, of the date or of tomorrow. It is 0 to 23 if the number is not beyond these three days.
+#[tactic(auto, unfolding(crate::specs::Setting::hour_adjustment_of, float64::proofs::Floats::dec, float64::proofs::Floats::round, float64::proofs::Floats::of_bits))]
 pub fn hour_adjustment(calculated_hours: f64) -> Placed
     ensures { result ≡ hour_adjustment_of calculated_hours }
 {
@@ -39,6 +40,7 @@ pub fn hour_adjustment(calculated_hours: f64) -> Placed
 }
 
 // The nearest minute. It is computed in floats because the floored seconds can be -1.
+#[tactic(auto, unfolding(crate::specs::Setting::minute_of, float64::proofs::Floats::dec, float64::proofs::Floats::round, float64::proofs::Floats::of_bits))]
 pub(crate) fn minute(value: f64, calculated_hours: f64) -> u32
     ensures { result ≡ minute_of value calculated_hours }
 {
@@ -67,6 +69,7 @@ fn date_minute(value: f64, calculated_hours: f64) -> u32
     minute(value, calculated_hours)
 }
 
+#[tactic(auto, unfolding(crate::specs::Setting::hour_of))]
 pub(crate) fn hour(p: Placed, minute: u32) -> Option<i32>
     ensures { result ≡ hour_of p minute }
 {

@@ -13,6 +13,7 @@ use refusals::{NO_SUNRISE, NO_SUNSET, NO_TRANSIT};
 use unit::{Angle, Coordinates};
 
 // The time of an hour number by a rule, if it has one. Only this function looks at the rule.
+#[tactic(auto, unfolding(crate::specs::Times::solar_hour_of))]
 pub fn solar_hour(rule: Midnight, number: f64) -> Option<i32>
     ensures { result ≡ solar_hour_of rule number }
 {
@@ -67,6 +68,7 @@ fn day(
 }
 
 impl SolarTime {
+    #[tactic(auto, unfolding(crate::specs::Times::solar_time_of))]
     pub fn new(rule: Midnight, numbers: HourNumbers) -> Result<SolarTime, Missing>
         ensures { result ≡ solar_time_of rule numbers }
     {

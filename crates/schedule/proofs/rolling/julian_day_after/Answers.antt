@@ -13,6 +13,3 @@ returns-then-date-le-ROLLS_TO c =
     let date = c.args.date in
     let there = moves date (λ e. c.if-date-tomorrow.true (e ∙ ap (λ (d : Date). d.day) (sym c.requires.0))) in
     ap (λ (day : Float). day +ᶠ dec 1 0) c.requires.1 ∙ sym (julian_tomorrow date there c.if-date-ge-ROLLS_FROM.true c.if-date-le-ROLLS_TO.true)
-
-pub returns : goal.returns
-returns c = c.date_julian_day.ensures ∙ ap date_julian_day_of c.requires.0
