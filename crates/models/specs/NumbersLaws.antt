@@ -1,4 +1,5 @@
--- Each case's number names that case. They are here and not in proofs/ because the impls of `Numbered` give them as its law.
+-- This file need not be believed: each case's number names that case, with the proof. It is here because an impl of `Numbered` gives it as
+-- its law, and code names only what is in specs/.
 use Rattle.std.specs.Prelude.{◌≡◌, refl}
 use Rattle.models.specs.declared.rounding.Rounding.{Rounding}
 use Rattle.models.specs.declared.rounding.Rounding.TheVariants.{Nearest, Up, None}
