@@ -1,5 +1,5 @@
 -- None that a school sends breaks a run. Assumes nothing.
-use Rattle.std.specs.Prelude.{Err, None, Ok, Option, Result, Some, ℤ}
+use Rattle.std.specs.Prelude.{Err, Ok, Result}
 use Rattle.schedule.specs.declared.prayer_times.PrayerTimes.{PrayerTimes}
 use Rattle.solar.specs.declared.times.SolarTime.{SolarTime}
 use Rattle.prelude.proofs.Logic.{◌≡◌, refl, sym, ap, ◌∙◌, subst, true, false, true≢false, List, [], ◌∷◌, ◌++◌, append_assoc, append-nil, ℕ}
@@ -13,7 +13,7 @@ use Rattle.days.specs.Calls.{work_date_of, work_row_of, work_reading_of, work_da
 use Rattle.fields.specs.{Fields.check_of, Values.values_of}
 use Rattle.lines.specs.Lines.{full_row, row_room, line_text}
 use Rattle.lines.proofs.LinesLaws.{columns_length}
-use Rattle.models.specs.declared.{parameters.Parameters.Parameters, rules.Midnight.Midnight, rules.Season.Season}
+use Rattle.models.specs.declared.{parameters.Parameters.Parameters, rules.Season.Season}
 use Rattle.order.specs.Reading.{checks_of, order_of, first_of, reading_of, town_of}
 use Rattle.order.specs.declared.reading.{Order.Order}
 use Rattle.order.proofs.ReadingLaws.{Refusing, refused_by}
@@ -28,8 +28,9 @@ use Rattle.sheets.specs.Rows.{worked_call_of, read_call_of, row_call_of, head_te
 use Rattle.schedule.proofs.Schedule.{suns_of, hours_of, numbers_of, season_of, started_in, since_from, since_of}
 use Rattle.schedule.specs.declared.{hours.RowHours.RowHours, hours.RowNumbers.RowNumbers}
 use Rattle.sentences.specs.{Sentences.sentence_of, Sentences.sentence_call_of, Table.known}
-use Rattle.solar.specs.Times.{day_of, solar_time_of, solar_hour_of}
-use Rattle.solar.specs.declared.{hours.HourNumbers.HourNumbers}
+use Rattle.solar.specs.Times.{missing_number_of, solar_time_of}
+use Rattle.solar.specs.declared.times.Missing.{Missing}
+use Rattle.solar.specs.declared.times.Missing.TheVariants.{Transit, Sunrise, Sunset}
 use Rattle.text.specs.Text.{front_of}
 use Rattle.order_laws.specs.NothingBreaks.{order_numbers, day_numbers, FirstBroken, FirstLacking, three_days, RefusedDay, row_line}
 use Rattle.order_laws.specs.NothingBreaks.{each_of, instead_of, OthersStay, Lent, written_for, NothingBreaksARun}
@@ -56,39 +57,33 @@ first_broken (q ∷ rest) o r e =
     (λ h. let same : q ≡ r = cc in subst (λ (x : Refusal). FirstBroken r (x ∷ rest)) (sym same) (FirstBroken.here (rw same at h)))
 
 -- ---- a day
-lacked : (t r s : Option ℤ) (n : ℕ) → day_of t r s ≡ Err n → listed day_numbers n ≡ true
-unfolding day_of listed
-lacked None r s n e = let same : 6 ≡ n = cc in rw (sym same) refl
-lacked (Some t) None s n e = let same : 7 ≡ n = cc in rw (sym same) refl
-lacked (Some t) (Some r) None n e = let same : 8 ≡ n = cc in rw (sym same) refl
-lacked (Some t) (Some r) (Some s) n e = let z : ◌≡◌ {A = ℕ} 0 1 = cc in absurd (omega arith)
-
-lacks_number : (rule : Midnight) (n : HourNumbers) (k : ℕ) → solar_time_of rule n ≡ Err k → listed day_numbers k ≡ true
-unfolding solar_time_of
-lacks_number rule n k e = lacked (solar_hour_of rule n.transit) (solar_hour_of rule n.sunrise) (solar_hour_of rule n.sunset) k e
+lacked : (missing : Missing) → listed day_numbers (missing_number_of missing) ≡ true
+unfolding listed
+lacked Transit = refl
+lacked Sunrise = refl
+lacked Sunset = refl
 
 -- a row is refused by the first of its days that lacks a time, and only by it
 module _ (h : RowHours) (date : Date) (season : Season) (p : Parameters) (r : Refusal) where
-  abbrev Listed : Result SolarTime ℕ → Type 0
-  Listed day = (k : ℕ) → day ≡ Err k → listed day_numbers k ≡ true
-
-  by_days : (a b c : Result SolarTime ℕ) → Listed a → Listed b → Listed c
-      → started_in date (since_from (suns_of a b c) h date season p) ≡ Err r
+  by_days : (a b c : Result SolarTime Missing) → started_in date (since_from (suns_of a b c) h date season p) ≡ Err r
       → (listed day_numbers r.number ≡ true) × (r.place ≤ 2) × FirstLacking r.number r.place (a ∷ b ∷ c ∷ [])
   unfolding started_in since_from suns_of
-  by_days (Err n) b c x y z e = let same : refusal n 0 ≡ r = cc in rw (← same) (x n refl, lit≤ tt, FirstLacking.here)
-  by_days (Ok t) (Err n) c x y z e =
-      let same : refusal n 1 ≡ r = cc in rw (← same) (y n refl, lit≤ tt, FirstLacking.later FirstLacking.here)
-  by_days (Ok t) (Ok u) (Err n) x y z e =
-      let same : refusal n 2 ≡ r = cc in rw (← same) (z n refl, lit≤ tt, FirstLacking.later (FirstLacking.later FirstLacking.here))
-  by_days (Ok t) (Ok u) (Ok v) x y z e = let w : ◌≡◌ {A = ℕ} 0 1 = cc in absurd (omega arith)
+  by_days (Err m) b c e =
+      let same : refusal (missing_number_of m) 0 ≡ r = cc in rw (← same) (lacked m, lit≤ tt, FirstLacking.here refl)
+  by_days (Ok t) (Err m) c e =
+      let same : refusal (missing_number_of m) 1 ≡ r = cc in
+      rw (← same) (lacked m, lit≤ tt, FirstLacking.later (FirstLacking.here refl))
+  by_days (Ok t) (Ok u) (Err m) e =
+      let same : refusal (missing_number_of m) 2 ≡ r = cc in
+      rw (← same) (lacked m, lit≤ tt, FirstLacking.later (FirstLacking.later (FirstLacking.here refl)))
+  by_days (Ok t) (Ok u) (Ok v) e = let w : ◌≡◌ {A = ℕ} 0 1 = cc in absurd (omega arith)
 
-  by-lacking : {number place : ℕ} {a b c : Result SolarTime ℕ} → FirstLacking number place (a ∷ b ∷ c ∷ [])
+  by-lacking : {number place : ℕ} {a b c : Result SolarTime Missing} → FirstLacking number place (a ∷ b ∷ c ∷ [])
       → started_in date (since_from (suns_of a b c) h date season p) ≡ Err (refusal number place)
   unfolding started_in since_from suns_of
-  by-lacking FirstLacking.here = refl
-  by-lacking (FirstLacking.later FirstLacking.here) = refl
-  by-lacking (FirstLacking.later (FirstLacking.later FirstLacking.here)) = refl
+  by-lacking (FirstLacking.here e) = ap (λ (n : ℕ). Err (refusal n 0)) e
+  by-lacking (FirstLacking.later (FirstLacking.here e)) = ap (λ (n : ℕ). Err (refusal n 1)) e
+  by-lacking (FirstLacking.later (FirstLacking.later (FirstLacking.here e))) = ap (λ (n : ℕ). Err (refusal n 2)) e
   by-lacking (FirstLacking.later (FirstLacking.later (FirstLacking.later x))) = elim x [ ]
 
 module _ (o : Order) (date : Date) (r : Refusal) where
@@ -100,8 +95,7 @@ module _ (o : Order) (date : Date) (r : Refusal) where
   refused_day e =
       let rule = o.setting.rules.midnight in
       let f = by_days (hours_of rule numbers) date (season_of o.setting) o.setting.parameters r
-      (solar_time_of rule numbers.today) (solar_time_of rule numbers.tomorrow) (solar_time_of rule numbers.after)
-      (lacks_number rule numbers.today) (lacks_number rule numbers.tomorrow) (lacks_number rule numbers.after) e in
+      (solar_time_of rule numbers.today) (solar_time_of rule numbers.tomorrow) (solar_time_of rule numbers.after) e in
       record { number = f.0; place = f.1; lacking = f.2 }
 
   lacking-day : FirstLacking r.number r.place (three_days o date) → work_date_of o date ≡ Err r

@@ -22,7 +22,8 @@ use Rattle.pages.specs.Pages.{cells_of, page_of}
 use Rattle.sheets.specs.Rows.{row_call_of, head_text, sheet_text}
 use Rattle.schedule.specs.Numbers.{numbers_of}
 use Rattle.sentences.specs.Sentences.{sentence_of, sentence_call_of}
-use Rattle.solar.specs.Times.{solar_time_of}
+use Rattle.solar.specs.Times.{missing_number_of, solar_time_of}
+use Rattle.solar.specs.declared.times.Missing.{Missing}
 use Rattle.solar.specs.declared.times.SolarTime.{SolarTime}
 use Rattle.text.specs.Text.{front_of}
 
@@ -44,17 +45,18 @@ pub data FirstBroken (r : Refusal) : List Refusal → Type 0 where
 abbrev pub day_numbers : List ℕ
 day_numbers = no_transit ∷ no_sunrise ∷ no_sunset ∷ []
 
--- a date's own day and the next two: each has the sun's times, or the number of the time that it lacks
-abbrev pub three_days : Order → Date → List (Result SolarTime ℕ)
+-- a date's own day and the next two: each has the sun's times, or the time that it lacks
+abbrev pub three_days : Order → Date → List (Result SolarTime Missing)
 three_days o date =
     let numbers = numbers_of date o.setting.coordinates o.setting.parameters in
     let rule = o.setting.rules.midnight in
     solar_time_of rule numbers.today ∷ solar_time_of rule numbers.tomorrow ∷ solar_time_of rule numbers.after ∷ []
 
 -- the first of some days that lacks a time: the number of what it lacks, and how many days are before it
-pub data FirstLacking (number : ℕ) : ℕ → List (Result SolarTime ℕ) → Type 0 where
-  here : {rest : List (Result SolarTime ℕ)} → FirstLacking number 0 (Err number ∷ rest)
-  later : {place : ℕ} {day : SolarTime} {rest : List (Result SolarTime ℕ)}
+pub data FirstLacking (number : ℕ) : ℕ → List (Result SolarTime Missing) → Type 0 where
+  here : {missing : Missing} {rest : List (Result SolarTime Missing)}
+      → missing_number_of missing ≡ number → FirstLacking number 0 (Err missing ∷ rest)
+  later : {place : ℕ} {day : SolarTime} {rest : List (Result SolarTime Missing)}
       → FirstLacking number place rest → FirstLacking number (suc place) (Ok day ∷ rest)
 
 pub record RefusedDay (o : Order) (date : Date) (r : Refusal) : Type 0 where

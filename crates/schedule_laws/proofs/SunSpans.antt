@@ -18,7 +18,7 @@ use Rattle.night_portions.proofs.BoundsLaws.{Portion, after-half, before-half}
 use Rattle.night_portions.proofs.OrderPortions.{half_portion, seventh_portion, angle_portion}
 use Rattle.ops.specs.Season.{morning_seconds_of, evening_seconds_of}
 use Rattle.ops.proofs.SeasonLaws.{morning-small, evening-small}
-use Rattle.solar.specs.declared.{times.SolarTime.SolarTime}
+use Rattle.solar.specs.declared.{times.Missing.Missing, times.SolarTime.SolarTime}
 use Rattle.solar.specs.Times.{solar_hour_of, solar_time_of}
 use Rattle.solar.proofs.TimesLaws.{SunOfThreeDays, DayOfThreeDays, hour_range, day_held}
 use Rattle.schedule.specs.declared.{hours.ThreeSuns.ThreeSuns, hours.RowHours.RowHours, hours.RowNumbers.RowNumbers}
@@ -58,13 +58,13 @@ pub record Three (suns : ThreeSuns) : Type 0 where
 -- if the row is not refused
 abbrev pub Row : Result ThreeSuns Refusal → Type 0
 Row (Ok suns) = Three suns
-Row (Err r) = 0 ≤ 0
+Row (Err r) = Unit {0}
 
-row : (a b c : Result SolarTime ℕ) → DayOfThreeDays a → DayOfThreeDays b → DayOfThreeDays c → Row (suns_of a b c)
+row : (a b c : Result SolarTime Missing) → DayOfThreeDays a → DayOfThreeDays b → DayOfThreeDays c → Row (suns_of a b c)
 unfolding suns_of
-row (Err n) b c h k l = lit≤ tt
-row (Ok x) (Err n) c h k l = lit≤ tt
-row (Ok x) (Ok y) (Err n) h k l = lit≤ tt
+row (Err m) b c h k l = tt
+row (Ok x) (Err m) c h k l = tt
+row (Ok x) (Ok y) (Err m) h k l = tt
 row (Ok x) (Ok y) (Ok z) h k l = record { today = sun_days x h; tomorrow = sun_days y k; after = sun_days z l }
 
 pub record Hours (h : RowHours) : Type 0 where
