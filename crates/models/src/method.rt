@@ -1,12 +1,13 @@
 // method.rs: the presets of the authorities.
-ghost use Rattle.std.specs.Prelude.{◌≡◌};
+ghost use Rattle.std.specs.Prelude.{◌≡◌, get_or};
+ghost use Rattle.std.specs.Float.Ieee.{nan};
 ghost use Rattle.models.specs.Numbers.{method_number_of, method_of};
 ghost use Rattle.models.specs.NumbersLaws.{method_back};
 ghost use Rattle.models.specs.Builder.{configuration_of, set_method, set_method_adjustments};
 ghost use Rattle.models.specs.Settings.{parameters_new_of};
 ghost use Rattle.models.specs.Presets.{preset_of};
 
-use super::adjustments::Adjustment;
+use super::adjustments::TimeAdjustment;
 use super::numbered::Numbered;
 use super::parameters::{Configuration, Parameters};
 use super::rounding::Rounding;
@@ -41,37 +42,124 @@ pub enum Method {
 }
 
 impl Method {
-    // The configuration by the Fajr and Isha angles, in degrees of the sun below the horizon, and the minutes.
-    fn preset(self, fajr_angle: f64, isha_angle: f64, minutes: Adjustment) -> Configuration
+    // How many degrees the sun is below the horizon at Fajr and at Isha.
+    pub const MUSLIM_WORLD_LEAGUE_ANGLES: [f64; 2] = [18.0, 17.0];
+
+    pub const EGYPTIAN_ANGLES: [f64; 2] = [19.5, 17.5];
+
+    pub const KARACHI_ANGLES: [f64; 2] = [18.0, 18.0];
+
+    pub const UMM_AL_QURA_ANGLES: [f64; 2] = [18.5, 0.0];
+
+    pub const DUBAI_ANGLES: [f64; 2] = [18.2, 18.2];
+
+    pub const MOONSIGHTING_ANGLES: [f64; 2] = [18.0, 18.0];
+
+    pub const NORTH_AMERICA_ANGLES: [f64; 2] = [15.0, 15.0];
+
+    pub const KUWAIT_ANGLES: [f64; 2] = [18.0, 17.5];
+
+    pub const QATAR_ANGLES: [f64; 2] = [18.0, 0.0];
+
+    pub const SINGAPORE_ANGLES: [f64; 2] = [20.0, 18.0];
+
+    pub const TEHRAN_ANGLES: [f64; 2] = [17.7, 14.0];
+
+    pub const TURKEY_ANGLES: [f64; 2] = [18.0, 17.0];
+
+    pub const OTHER_ANGLES: [f64; 2] = [0.0, 0.0];
+
+    // The same at Maghrib.
+    pub const TEHRAN_MAGHRIB: f64 = 4.5;
+
+    // Minutes from Maghrib to Isha, in place of Isha's angle.
+    pub const UMM_AL_QURA_INTERVAL: i32 = 90;
+
+    pub const QATAR_INTERVAL: i32 = 90;
+
+    pub const SINGAPORE_ROUNDING: Rounding = Rounding::Up;
+
+    // Five methods move only Dhuhr, by a minute.
+    pub const DHUHR_MINUTES: TimeAdjustment = TimeAdjustment {
+        fajr: 0,
+        sunrise: 0,
+        dhuhr: 1,
+        asr: 0,
+        maghrib: 0,
+        isha: 0,
+    };
+
+    pub const DUBAI_MINUTES: TimeAdjustment = TimeAdjustment {
+        fajr: 0,
+        sunrise: -3,
+        dhuhr: 3,
+        asr: 3,
+        maghrib: 3,
+        isha: 0,
+    };
+
+    pub const MOONSIGHTING_MINUTES: TimeAdjustment = TimeAdjustment {
+        fajr: 0,
+        sunrise: 0,
+        dhuhr: 5,
+        asr: 0,
+        maghrib: 3,
+        isha: 0,
+    };
+
+    pub const TURKEY_MINUTES: TimeAdjustment = TimeAdjustment {
+        fajr: 0,
+        sunrise: -7,
+        dhuhr: 5,
+        asr: 4,
+        maghrib: 7,
+        isha: 0,
+    };
+
+    fn preset(self, angles: [f64; 2], minutes: TimeAdjustment) -> Configuration
         ensures { result
-            ≡ set_method_adjustments (set_method (configuration_of (parameters_new_of fajr_angle isha_angle)) self) minutes.minutes }
+            ≡ set_method_adjustments (set_method (configuration_of (parameters_new_of (get_or angles 0 nan) (get_or angles 1 nan))) self) minutes }
     {
-        Configuration::new(fajr_angle, isha_angle)
+        Configuration::new(angles[0], angles[1])
             .method(self)
-            .method_adjustments(minutes.done())
+            .method_adjustments(minutes)
     }
 
-    // One line for each method, as the definition has it. The rest is as in Parameters::new.
+    // The method's constants put together. The rest is as in Parameters::new.
     fn configuration(self) -> Configuration
         ensures { result ≡ configuration_of (preset_of self) }
     {
-        let none = Adjustment::new();
         match self {
-            Method::MuslimWorldLeague => self.preset(18.0, 17.0, none.dhuhr(1)),
-            Method::Egyptian => self.preset(19.5, 17.5, none.dhuhr(1)),
-            Method::Karachi => self.preset(18.0, 18.0, none.dhuhr(1)),
-            Method::UmmAlQura => self.preset(18.5, 0.0, none).isha_interval(90),
-            Method::Dubai => self.preset(18.2, 18.2, none.sunrise(-3).dhuhr(3).asr(3).maghrib(3)),
-            Method::MoonsightingCommittee => self.preset(18.0, 18.0, none.dhuhr(5).maghrib(3)),
-            Method::NorthAmerica => self.preset(15.0, 15.0, none.dhuhr(1)),
-            Method::Kuwait => self.preset(18.0, 17.5, none),
-            Method::Qatar => self.preset(18.0, 0.0, none).isha_interval(90),
+            Method::MuslimWorldLeague => self.preset(
+                Method::MUSLIM_WORLD_LEAGUE_ANGLES,
+                Method::DHUHR_MINUTES,
+            ),
+            Method::Egyptian => self.preset(Method::EGYPTIAN_ANGLES, Method::DHUHR_MINUTES),
+            Method::Karachi => self.preset(Method::KARACHI_ANGLES, Method::DHUHR_MINUTES),
+            Method::UmmAlQura => self
+                .preset(Method::UMM_AL_QURA_ANGLES, TimeAdjustment::NONE)
+                .isha_interval(Method::UMM_AL_QURA_INTERVAL),
+            Method::Dubai => self.preset(Method::DUBAI_ANGLES, Method::DUBAI_MINUTES),
+            Method::MoonsightingCommittee => self.preset(
+                Method::MOONSIGHTING_ANGLES,
+                Method::MOONSIGHTING_MINUTES,
+            ),
+            Method::NorthAmerica => self.preset(
+                Method::NORTH_AMERICA_ANGLES,
+                Method::DHUHR_MINUTES,
+            ),
+            Method::Kuwait => self.preset(Method::KUWAIT_ANGLES, TimeAdjustment::NONE),
+            Method::Qatar => self
+                .preset(Method::QATAR_ANGLES, TimeAdjustment::NONE)
+                .isha_interval(Method::QATAR_INTERVAL),
             Method::Singapore => self
-                .preset(20.0, 18.0, none.dhuhr(1))
-                .rounding(Rounding::Up),
-            Method::Tehran => self.preset(17.7, 14.0, none).maghrib_angle(4.5),
-            Method::Turkey => self.preset(18.0, 17.0, none.sunrise(-7).dhuhr(5).asr(4).maghrib(7)),
-            Method::Other => self.preset(0.0, 0.0, none),
+                .preset(Method::SINGAPORE_ANGLES, Method::DHUHR_MINUTES)
+                .rounding(Method::SINGAPORE_ROUNDING),
+            Method::Tehran => self
+                .preset(Method::TEHRAN_ANGLES, TimeAdjustment::NONE)
+                .maghrib_angle(Method::TEHRAN_MAGHRIB),
+            Method::Turkey => self.preset(Method::TURKEY_ANGLES, Method::TURKEY_MINUTES),
+            Method::Other => self.preset(Method::OTHER_ANGLES, TimeAdjustment::NONE),
         }
     }
 

@@ -59,23 +59,39 @@ pub struct NightPortions {
 }
 
 impl Parameters {
-    // The parameters with these angles. The rest has default values.
+    // The defaults.
+    pub const METHOD: Method = Method::Other;
+
+    pub const MAGHRIB_ANGLE: f64 = 0.0;
+
+    pub const ISHA_INTERVAL: i32 = 0;
+
+    pub const MADHAB: Madhab = Madhab::Shafi;
+
+    pub const HIGH_LATITUDE_RULE: HighLatitudeRule = HighLatitudeRule::MiddleOfTheNight;
+
+    pub const ADJUSTMENTS: TimeAdjustment = TimeAdjustment::NONE;
+
+    pub const ROUNDING: Rounding = Rounding::Nearest;
+
+    pub const SHAFAQ: Shafaq = Shafaq::General;
+
     #[tactic(auto, unfolding(crate::specs::Settings::parameters_new_of, float64::specs::Ops::dec))]
     pub fn new(fajr_angle: f64, isha_angle: f64) -> Parameters
         ensures { result ≡ parameters_new_of fajr_angle isha_angle }
     {
         Parameters {
-            method: Method::Other,
+            method: Self::METHOD,
             fajr_angle,
-            maghrib_angle: 0.0,
+            maghrib_angle: Self::MAGHRIB_ANGLE,
             isha_angle,
-            isha_interval: 0,
-            madhab: Madhab::Shafi,
-            high_latitude_rule: HighLatitudeRule::MiddleOfTheNight,
-            adjustments: TimeAdjustment::NONE,
-            method_adjustments: TimeAdjustment::NONE,
-            rounding: Rounding::Nearest,
-            shafaq: Shafaq::General,
+            isha_interval: Self::ISHA_INTERVAL,
+            madhab: Self::MADHAB,
+            high_latitude_rule: Self::HIGH_LATITUDE_RULE,
+            adjustments: Self::ADJUSTMENTS,
+            method_adjustments: Self::ADJUSTMENTS,
+            rounding: Self::ROUNDING,
+            shafaq: Self::SHAFAQ,
         }
     }
 
