@@ -25,6 +25,7 @@ fn fits(form: MapForm, coordinate: Coordinate) -> bool
         && size(form) <= coordinate.most * IN_DEGREE
 }
 
+// One function for each coordinate: callers have its tag and not this crate's `Coordinate`.
 pub fn latitude_fits(form: MapForm) -> bool
     ensures { result ≡ form_fits most_latitude form }
 {

@@ -11,6 +11,7 @@ use float64::sizes::abs;
 use float64::words::is_negative;
 use refusals::{OUT_OF_RANGE, Refusal};
 
+// No Result: the call for C returns this struct.
 #[repr(C)]
 #[derive(Clone, Copy)]
 pub struct Written {
@@ -72,6 +73,7 @@ fn write(x: f64, coordinate: Coordinate) -> Written
     }
 }
 
+// One function for each coordinate, as C calls them.
 pub fn write_latitude(x: f64) -> Written
     ensures value { result ≡ written_of map_latitude_tag most_latitude x }
     ensures owed { Owed map_latitude_tag most_latitude x result }
