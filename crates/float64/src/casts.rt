@@ -1,4 +1,4 @@
-// Rust's casts of a float by `as`, which saturate: rounded toward zero, the nearest end of the range for a number beyond it, and 0 for a NaN.
+// Rust's `as` from a float, which saturates: rounded toward zero, the nearest end of the range for a number beyond it, and 0 for a NaN.
 ghost use Rattle.std.specs.Prelude.{◌≡◌};
 ghost use Rattle.std.specs.Float.Ieee.{to_signed, to_unsigned};
 

@@ -7,7 +7,12 @@ use Rattle.text.proofs.decimal.put_decimal.Goals as goal
 pub loop-first-init : goal.loop-first-init
 loop-first-init c =
     record {
-      spelled = record { long = refl; short = omega (arith, c.ranges.n.fits); left = λ h. absurd (omega arith); text = append-nil (decimal_of c.args.n) };
+      spelled = record {
+        long = refl;
+        short = omega (arith, c.ranges.n.fits);
+        left = λ h. absurd (omega arith);
+        text = append-nil (decimal_of c.args.n);
+      };
       same = refl;
     }
 
