@@ -25,6 +25,7 @@ use solar::times::SolarTime;
 use whole_minutes::times::{adjust_time, rounded_minute};
 
 // In seconds from 1970-01-01 0h UTC, or from 0h of the date if a function says so. Always in this order: they are not sorted.
+// How near to 0h they are is a clause (Each, NearIn) and no invariant, since the structure is C's and holds the times from 1970 too.
 #[repr(C)]
 #[derive(Clone, Copy)]
 pub struct PrayerTimes {
@@ -123,7 +124,8 @@ impl Day {
     // The Fajr of the nine times. The other eight are not worked.
     #[tactic(auto, unfolding(crate::specs::Times::final_of))]
     fn final_fajr(self, suns: ThreeSuns, hour: Option<i32>) -> i64
-        ensures { result ≡ final_of self.parameters Fajr (unadjusted_fajr_of self.parameters self.season self.date suns.today suns.tomorrow hour) }
+        ensures { result ≡ final_of self.parameters Fajr
+            (unadjusted_fajr_of self.parameters self.season self.date suns.today suns.tomorrow hour) }
     {
         let parameters = self.parameters;
         let fajr = self.unadjusted_fajr(suns.today, suns.tomorrow, hour);

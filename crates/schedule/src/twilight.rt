@@ -2,8 +2,8 @@
 // season. Times are seconds from 0h of the date. The sun's times are i32, so an i64 holds every sum here for all parameters.
 ghost use Rattle.std.specs.Prelude.{◌≡◌, ◌^◌, ◌+ℤ◌};
 ghost use Rattle.integers.specs.Parts.{Near};
-ghost use Rattle.schedule.specs.Twilight.{night_of, later_of, earlier_of, or_of, by_season_of, by_seventh_of, own_of, short_of, fajr_bound_of};
-ghost use Rattle.schedule.specs.Twilight.{unadjusted_fajr_of, isha_bound_of, bounded_isha_of, unadjusted_isha_of};
+ghost use Rattle.schedule.specs.Twilight.{night_of, later_of, earlier_of, or_of, by_season_of, by_seventh_of, own_of, short_of};
+ghost use Rattle.schedule.specs.Twilight.{fajr_bound_of, unadjusted_fajr_of, isha_bound_of, bounded_isha_of, unadjusted_isha_of};
 
 use calendar::dates::Date;
 use models::method::Method;
@@ -67,6 +67,7 @@ impl From<i32> for Seconds {
     }
 }
 
+// Two comparisons are all that is asked of their order, so there is no derived Ord.
 impl Seconds {
     // `seconds` after a time of the sun.
     fn after(time: i32, seconds: i64) -> Seconds
