@@ -39,14 +39,12 @@ fn full_row(date: Date, times: PrayerTimes, clock: i32) -> [u8; ROW_CELLS]
     let mut cells = [0u8; ROW_CELLS];
     put(&mut cells, 0, &day_cells(date));
     let six = six(times);
-    let mut i = 0;
-    while i < 6 {
+    for (i, time) in six.iter().enumerate() {
         put(
             &mut cells,
             DAY_CELLS + TIME_CELLS * i,
-            &time_cells(clock, six[i]),
+            &time_cells(clock, *time),
         );
-        i = i + 1;
     }
     cells
 }
@@ -75,10 +73,8 @@ fn dots(cells: &[u8]) -> u32
     ensures { result ≡ dots_of cells.now }
 {
     let mut sum: u32 = 0;
-    let mut i = 0;
-    while i < cells.len() {
-        sum = sum + u32::count_ones(cells[i] as u32);
-        i = i + 1;
+    for cell in cells {
+        sum += cell.count_ones();
     }
     sum
 }
@@ -95,6 +91,6 @@ pub fn put_cells(
     ensures buffer_after { buffer.new ≡ put_of buffer.old at (row_cells date worked clock) }
 {
     let cells = row_cells(date, worked, clock);
-    put(&mut buffer[..], at, &cells);
+    put(buffer, at, &cells);
     dots(&cells)
 }

@@ -2,7 +2,7 @@
 use Rattle.std.specs.Prelude.{Result}
 use Rattle.schedule.specs.declared.prayer_times.PrayerTimes.{PrayerTimes}
 use Rattle.refusals.specs.declared.Refusal.{Refusal}
-use Rattle.prelude.proofs.Logic.{◌≡◌, sym, ap, ◌∙◌, ℕ, ◌+◌, ◌<◌, arith, lt-ltb}
+use Rattle.prelude.proofs.Logic.{◌≡◌, sym, ap, ◌∙◌, ℕ, ◌+◌, ◌-◌, ◌<◌, ◌≤◌, arith, lt-ltb}
 use Rattle.calendar.proofs.Calendar.{row_date_of, row_first, row_is, row-tomorrow}
 use Rattle.calendar.specs.declared.dates.Date.{Date}
 use Rattle.order.specs.Accepted.{Accepted}
@@ -44,3 +44,12 @@ module _ (o : Order) (a : Accepted o) where
     pub state-worked : worked_by_suns o (state_of o k) ≡ work_row_of o k
     unfolding work_row_of
     state-worked = simp (lt-ltb k o.rows h) (first_row (row_date_of o.date k) o.setting)
+
+  -- Suns that are kept from row to row: before a row they are those of the row before it, or at first those of row 0.
+  pub rolled : (k : ℕ) → k < o.rows → (suns : RowSuns) → suns ≡ state_of o (k - 1) → 0 < k → next_row_suns_of o.setting suns ≡ state_of o k
+  rolled k h suns s some =
+      let e : k - 1 + 1 ≡ k = omega arith in
+      ap (next_row_suns_of o.setting) s ∙ next-state (k - 1) (omega arith) ∙ ap (state_of o) e
+
+  pub at_first : (k : ℕ) (suns : RowSuns) → suns ≡ state_of o (k - 1) → k ≤ 0 → suns ≡ state_of o k
+  at_first k suns s none = let e : k - 1 ≡ k = omega arith in s ∙ ap (state_of o) e

@@ -6,7 +6,7 @@ use Rattle.fields.specs.{Values.Values, Values.values_of, Numbers.byte_of}
 use Rattle.models.specs.declared.{method.Method.Method}
 use Rattle.models.proofs.Models.{method_of, madhab_of, rule_of, rounding_of, shafaq_of, midnight_of, southern_of, preset_of, method_number_of}
 use Rattle.models.proofs.Models.{madhab_number_of, rule_number_of, rounding_number_of, shafaq_number_of, midnight_number_of, southern_number_of}
-use Rattle.models.proofs.NumbersLaws.{method_back, madhab_back, rule_back, rounding_back, shafaq_back, midnight_back, southern_back}
+use Rattle.models.specs.NumbersLaws.{method_back, madhab_back, rule_back, rounding_back, shafaq_back, midnight_back, southern_back}
 use Rattle.order.specs.{declared.reading.Order.Order, Given.parameters_in}
 use Rattle.order.specs.Reading.{order_of, reading_of, town_of}
 use Rattle.order.proofs.{AcceptedLaws.brought, AcceptedLaws.read_accepted, ReadingLaws.read_passed}

@@ -5,6 +5,7 @@ ghost use Rattle.katchidul.specs.Exports.{prayer_answer_of, prayer_got, next_ans
 ghost use Rattle.schedule.specs.InForce.{current_number_of};
 
 use days::in_force::{next_at, prayer_at};
+use models::numbered::Numbered;
 use models::prayer::Prayer;
 use refusals::Refusal;
 use schedule::in_force::Instant;
@@ -14,15 +15,6 @@ use schedule::in_force::Instant;
 pub struct KatchidulPrayer {
     pub refusal: Refusal,
     pub prayer: u32,
-}
-
-pub(crate) fn instant(seconds: i64, nanoseconds: u32) -> Instant
-    ensures { result ≡ instant_of seconds nanoseconds }
-{
-    Instant {
-        seconds: seconds,
-        nanoseconds: nanoseconds,
-    }
 }
 
 fn current_number(current: Option<Prayer>) -> u32
@@ -43,7 +35,7 @@ fn prayer_answer(answer: Result<Option<Prayer>, Refusal>) -> KatchidulPrayer
             prayer: current_number(current),
         },
         Err(refusal) => KatchidulPrayer {
-            refusal: refusal,
+            refusal,
             prayer: 0,
         },
     }
@@ -57,7 +49,7 @@ pub fn katchidul_prayer_at(
 ) -> KatchidulPrayer
     ensures { result ≡ prayer_got order.now row (instant_of seconds nanoseconds) }
 {
-    prayer_answer(prayer_at(order, row, instant(seconds, nanoseconds)))
+    prayer_answer(prayer_at(order, row, Instant { seconds, nanoseconds }))
 }
 
 fn next_answer(answer: Result<Prayer, Refusal>) -> KatchidulPrayer
@@ -69,7 +61,7 @@ fn next_answer(answer: Result<Prayer, Refusal>) -> KatchidulPrayer
             prayer: prayer.number(),
         },
         Err(refusal) => KatchidulPrayer {
-            refusal: refusal,
+            refusal,
             prayer: 0,
         },
     }
@@ -78,5 +70,5 @@ fn next_answer(answer: Result<Prayer, Refusal>) -> KatchidulPrayer
 pub fn katchidul_next_at(order: &[u8], row: u32, seconds: i64, nanoseconds: u32) -> KatchidulPrayer
     ensures { result ≡ next_answer_of (next_at_of order.now row (instant_of seconds nanoseconds)) }
 {
-    next_answer(next_at(order, row, instant(seconds, nanoseconds)))
+    next_answer(next_at(order, row, Instant { seconds, nanoseconds }))
 }

@@ -20,10 +20,10 @@ fn day_answer(worked: Result<PrayerTimes, Refusal>) -> KatchidulDay
     match worked {
         Ok(times) => KatchidulDay {
             refusal: Refusal::none(),
-            times: times,
+            times,
         },
         Err(refusal) => KatchidulDay {
-            refusal: refusal,
+            refusal,
             times: PrayerTimes::NONE,
         },
     }

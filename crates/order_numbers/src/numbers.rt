@@ -8,6 +8,7 @@ use calendar::dates::Date;
 use fields::values::Part;
 use integers::parts::above;
 use models::adjustments::TimeAdjustment;
+use models::numbered::Numbered;
 use order::reading::{Order, read};
 use refusals::Refusal;
 use unit::Coordinates;

@@ -18,6 +18,7 @@ ghost use Rattle.solar.specs.Times.{solar_hour_of};
 ghost use Rattle.probes.specs.Functions.{probe_sun_of, probe_time_of};
 
 use calendar::dates::Date;
+use models::numbered::Numbered;
 use models::rules::Midnight;
 use models::shafaq::Shafaq;
 use ops::season::{
@@ -209,7 +210,7 @@ fn time(hour: Option<i32>) -> ProbeTime
     match hour {
         Some(seconds) => ProbeTime {
             found: true,
-            seconds: seconds,
+            seconds,
         },
         None => ProbeTime {
             found: false,

@@ -27,13 +27,13 @@ fn answer(reading: Result<Order, Refusal>) -> ProbeOrder
             let parameters = order.setting.parameters;
             let method_minutes = parameters.method_adjustments;
             ProbeOrder {
-                numbers: numbers,
+                numbers,
                 maghrib_angle: parameters.maghrib_angle,
-                method_minutes: method_minutes,
+                method_minutes,
             }
         }
         Err(_) => ProbeOrder {
-            numbers: numbers,
+            numbers,
             maghrib_angle: 0.0,
             method_minutes: TimeAdjustment::NONE,
         },

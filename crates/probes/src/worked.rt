@@ -12,6 +12,7 @@ use models::adjustments::TimeAdjustment;
 use models::high_altitude_rule::HighLatitudeRule;
 use models::madhab::Madhab;
 use models::method::Method;
+use models::numbered::Numbered;
 use models::parameters::Parameters;
 use models::prayer::Prayer;
 use models::rounding::Rounding;
@@ -64,7 +65,7 @@ fn parameters(s: ProbeSettings) -> Parameters
     let method_adjustments = preset.method_adjustments;
     let minutes = s.minutes;
     Parameters {
-        method: method,
+        method,
         fajr_angle: s.fajr_angle,
         maghrib_angle: preset.maghrib_angle,
         isha_angle: s.isha_angle,
@@ -72,7 +73,7 @@ fn parameters(s: ProbeSettings) -> Parameters
         madhab: Madhab::of_number(s.madhab),
         high_latitude_rule: HighLatitudeRule::of_number(s.high_latitude_rule),
         adjustments: minutes,
-        method_adjustments: method_adjustments,
+        method_adjustments,
         rounding: Rounding::of_number(s.rounding),
         shafaq: Shafaq::of_number(s.shafaq),
     }
@@ -103,10 +104,10 @@ fn answered(worked: Result<PrayerTimes, Refusal>) -> ProbeDay
     match worked {
         Ok(times) => ProbeDay {
             refusal: Refusal::none(),
-            times: times,
+            times,
         },
         Err(refusal) => ProbeDay {
-            refusal: refusal,
+            refusal,
             times: PrayerTimes::NONE,
         },
     }
@@ -150,15 +151,6 @@ pub extern "C" fn probe_row(
     answered(RowSuns::new(date, setting).work(setting))
 }
 
-fn instant(seconds: i64, nanoseconds: u32) -> Instant
-    ensures { result ≡ instant_of seconds nanoseconds }
-{
-    Instant {
-        seconds: seconds,
-        nanoseconds: nanoseconds,
-    }
-}
-
 fn number(current: Option<Prayer>) -> u32
     ensures { result ≡ current_number_of current }
 {
@@ -173,7 +165,7 @@ fn number(current: Option<Prayer>) -> u32
 pub extern "C" fn probe_current(times: PrayerTimes, seconds: i64, nanoseconds: u32) -> u32
     ensures { result ≡ current_number_of (current_time_of times (instant_of seconds nanoseconds)) }
 {
-    number(times.current_time(instant(seconds, nanoseconds)))
+    number(times.current_time(Instant { seconds, nanoseconds }))
 }
 
 // The number of the next prayer, or 0 if none is in force.
@@ -181,7 +173,7 @@ pub extern "C" fn probe_current(times: PrayerTimes, seconds: i64, nanoseconds: u
 pub extern "C" fn probe_next(times: PrayerTimes, seconds: i64, nanoseconds: u32) -> u32
     ensures { result ≡ current_number_of (next_of times (instant_of seconds nanoseconds)) }
 {
-    number(times.next(instant(seconds, nanoseconds)))
+    number(times.next(Instant { seconds, nanoseconds }))
 }
 
 // The time until the next prayer. If none is in force, `found` is false and the numbers are 0.
@@ -218,5 +210,5 @@ pub extern "C" fn probe_remaining(
 ) -> ProbeRemaining
     ensures { result ≡ probe_remaining_of (time_remaining_of times (instant_of seconds nanoseconds)) }
 {
-    hours_minutes(times.time_remaining(instant(seconds, nanoseconds)))
+    hours_minutes(times.time_remaining(Instant { seconds, nanoseconds }))
 }

@@ -1,13 +1,14 @@
 -- Windows and lines depend only on the rows that they look at; and how long lines can be. Assumes nothing.
 use Rattle.std.specs.Prelude.{None, Option, Some}
 use Rattle.weeks.specs.declared.window.Extremes.{Extremes}
-use Rattle.prelude.proofs.Logic.{◌≡◌, refl, ap, ◌∙◌, List, [], ◌∷◌, ℕ, zero, suc, ◌+◌, ◌-◌, ◌*◌, ◌/◌, ◌≤◌, ◌<◌, add-one, arith, ltb}
-use Rattle.prelude.proofs.Logic.{length, length-append, lt-ltb, arms, ℤ}
+use Rattle.prelude.proofs.Logic.{◌≡◌, refl, sym, ap, ◌∙◌, List, [], ◌∷◌, ℕ, zero, suc, ◌+◌, ◌-◌, ◌*◌, ◌/◌, ◌≤◌, ◌<◌, add-one, arith, ltb}
+use Rattle.prelude.proofs.Logic.{length, length-append, lt-ltb, arms, ℤ, true, false, lt_z, take, get_or-take}
 use Rattle.text.proofs.{SignedLaws.signed_length, TextLaws.put_next}
 use Rattle.text.specs.Text.{digit_of, digits_of, decimal_of, put_of, front_of}
 use Rattle.weeks.specs.Lines.{pair_text, line_of, lines_of, report_of}
 use Rattle.weeks.specs.{Meaning.Answers, Report.longest_week}
-use Rattle.weeks.specs.Windows.{begin_of, seen_of, look_of, window_of}
+use Rattle.weeks.specs.Kept.{minute_in_list}
+use Rattle.weeks.specs.Windows.{begin_of, earlier_in, extremes, later_in, seen_of, look_of, window_of}
 use Rattle.weeks.proofs.MeaningLaws.{window_answers}
 
 -- ---- a window while it is looked through
@@ -33,6 +34,22 @@ module _ (f : ℕ → Option ℤ) (first : ℕ) where
       let to = l.to in
       let none : 0 ≡ l.left = omega arith in
       ap (look_of f w row) none ∙ l.is
+
+  -- a refused row refuses the window
+  look_none : (row k : ℕ) → look_of f None row k ≡ None
+  look_none row zero = refl
+  look_none row (suc k) = look_none (row + 1) k
+
+  pub first-refused : f first ≡ None → None ≡ window_of f first
+  unfolding window_of
+  first-refused e = sym (rw e (look_none (first + 1) 6))
+
+  pub first-there : (m : ℤ) → f first ≡ Some m → Looking f first (Some (extremes m first m first)) (first + 1)
+  first-there m e = rw e at look-first
+
+  pub row-refused : (w : Option Extremes) (row : ℕ) → Looking f first w row → row < first + 7 → seen_of w row (f row) ≡ None
+      → None ≡ window_of f first
+  row-refused w row l h e = let n = rw e at (look-next w row l h) in sym (look_none (row + 1) n.left) ∙ n.is
 
 -- ---- rows that are the same give the same report
 module _ (f g : ℕ → Option ℤ) (rows : ℕ) (same : (r : ℕ) → r < rows → f r ≡ g r) where
@@ -128,3 +145,25 @@ module _ (f : ℕ → Option ℤ) (rows : ℕ) (most : rows ≤ 400) (buffer : L
         place = rw (add-one first) (omega (arith, p.0));
         same = k ∙ same;
       }
+
+-- ---- one row more, by the tests of the code
+module _ (x : Extremes) (row : ℕ) (m : ℤ) where
+  pub earlier_yes : lt_z m x.earliest ≡ true → extremes m row x.latest x.latest_row ≡ earlier_in x row m
+  unfolding earlier_in
+  earlier_yes h = simp h
+
+  pub earlier_no : lt_z m x.earliest ≡ false → x ≡ earlier_in x row m
+  unfolding earlier_in
+  earlier_no h = simp h
+
+  pub later_yes : lt_z x.latest m ≡ true → extremes x.earliest x.earliest_row m row ≡ later_in x row m
+  unfolding later_in
+  later_yes h = simp h
+
+  pub later_no : lt_z x.latest m ≡ false → x ≡ later_in x row m
+  unfolding later_in
+  later_no h = simp h
+
+-- ---- the minutes of the first rows
+pub minute_take : (kept : List (Option ℤ)) (n k : ℕ) → k < n → minute_in_list (take n kept) k ≡ minute_in_list kept k
+minute_take kept n k h = get_or-take n kept k None h

@@ -13,12 +13,11 @@ two_digits-hour-requires c =
 pub returns : goal.returns
 unfolding time_text
 returns c =
-    let t = c.before.before.before.before in
     let moment = c.compared-moment in
     let hour = c.two_digits-hour in
     let minute = c.two_digits-minute in
     let rest = c.second_digits-rest in
-    let r = read w64 t.args.time t.ranges.time in
+    let r = read w64 c.args.time c.ranges.time in
     let days = ap (days_of epoch) r in
     let s = moment.ensures.2 ∙ ap (λ (z : ℤ). floor_rem z 86400) r in
     let n : ℕ = moment.result.second in

@@ -50,17 +50,17 @@ returns-in-Some c =
     f (rw (read w64 x.latest (search rules)) at c.put_pair-end-in-Some.ensures.buffer_after) c.put.ensures in
     record { value = rw told made.0; buffer_after = rw told made.1 }
 
-pub overflow_add-result-in-Err : goal.overflow_add-result-in-Err
-overflow_add-result-in-Err c =
-    let room = rw c.in-Err.is at c.requires in
+pub overflow_add-result-in-None : goal.overflow_add-result-in-None
+overflow_add-result-in-None c =
+    let room = rw c.in-None.is at c.requires in
     let bytes = refused_bytes c.args.first in
     let e = c.put_decimal.ensures.value in
     record { fits = omega arith }
 
-pub returns-in-Err : goal.returns-in-Err
-returns-in-Err c =
-    let told = c.in-Err.is in
+pub returns-in-None : goal.returns-in-None
+returns-in-None c =
+    let told = c.in-None.is in
     let decimal = c.put_decimal.ensures in
     let made = refused-made _ _ c.args.first (rw told at c.requires) _ _ _ decimal.value decimal.buffer_after
-    c.put-in-Err.ensures in
+    c.put-in-None.ensures in
     record { value = rw told made.0; buffer_after = rw told made.1 }

@@ -1,10 +1,8 @@
-use Rattle.prelude.proofs.Logic.{◌+◌, ◌-◌, rules}
-use Rattle.weeks.specs.Kept.{minute_at}
-use Rattle.weeks.proofs.ReportLaws.{Looking, look-first, look-next, look-last}
+-- The loop's invariant: with the rows that are left, the window becomes the definition's.
+use Rattle.std.specs.Prelude.{Some}
+use Rattle.weeks.specs.Kept.{minute_in_list}
+use Rattle.weeks.proofs.ReportLaws.{Looking}
 use Rattle.weeks.proofs.window.window_from.Given as goal
 
 abbrev pub invariant-loop-row : goal.invariant-loop-row
-invariant-loop-row l = Looking (minute_at l.minutes l.refused) l.first l.window l.row
-
-abbrev pub decreases-loop-row : goal.decreases-loop-row
-decreases-loop-row l = l.first + 7 - l.row
+invariant-loop-row l = Looking (minute_in_list l.minutes) l.first (Some l.window) l.row
