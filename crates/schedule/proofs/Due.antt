@@ -1,10 +1,9 @@
 -- Whole seconds ahead of an instant. Assumes nothing.
-use Rattle.prelude.proofs.Logic.{◌≡◌, refl, sym, ap, ◌∙◌, Bool, cond, ℕ, zero, suc, ◌+◌, ◌-◌, ◌*◌, ◌/◌, ◌≤◌, ◌<◌, arith, eqb, ℤ, pos}
-use Rattle.prelude.proofs.Logic.{negsuc, ◌+ℤ◌, ◌-ℤ◌, ◌*ℤ◌, eq-eqb, ne_eqb, w64, SFits, Fits}
-use Rattle.integers.proofs.Integers.{P, N, sum, difference, times, range}
-use Rattle.models.specs.Numbers.{prayer_of}
-use Rattle.schedule.specs.InForce.{in_second, nanoseconds_of, ahead_of, time_of, last_of}
-use Rattle.schedule.specs.declared.{in_force.Instant.Instant, prayer_times.PrayerTimes.PrayerTimes}
+use Rattle.prelude.proofs.Logic.{◌≡◌, sym, ap, ◌∙◌, ℕ, ◌+◌, ◌-◌, ◌*◌, ◌/◌, arith, ℤ, pos}
+use Rattle.prelude.proofs.Logic.{negsuc, ◌+ℤ◌, ◌-ℤ◌, ◌*ℤ◌}
+use Rattle.integers.proofs.Integers.{P, N, sum, difference, times}
+use Rattle.schedule.specs.InForce.{in_second, nanoseconds_of, ahead_of}
+use Rattle.schedule.specs.declared.{in_force.Instant.Instant}
 
 -- the positive part of a balance
 positive_part : (z : ℤ) (a b : ℕ) → P z + b ≡ N z + a → P z ≡ a - b

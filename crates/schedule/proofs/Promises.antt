@@ -1,9 +1,7 @@
 -- What the private functions promise, as their callers read it, and the night's portions as they are worked. Assumes nothing.
-use Rattle.std.specs.Int.{int_max, int_min}
-use Rattle.prelude.proofs.Logic.{◌≡◌, refl, ap, subst, ◌∙◌, Bool, true, false, cond, cases, ℕ, ◌+◌, ◌^◌, ◌≤◌, arith, lit≤, ℤ, ◌+ℤ◌, lt_z}
+use Rattle.prelude.proofs.Logic.{◌≡◌, refl, ap, subst, ◌∙◌, ℕ, ◌+◌, ◌^◌, ◌≤◌, lit≤, ℤ, ◌+ℤ◌}
 use Rattle.prelude.proofs.Logic.{w32, w64, SFits}
-use Rattle.integers.proofs.Integers.{Near, wider, inside_between, read_back, read, Held, of_wide, held_sum, stored, same, lt_yes, lt_no, to_not_lt}
-use Rattle.schedule.specs.Twilight.{later_of, earlier_of}
+use Rattle.integers.proofs.Integers.{Near, wider, inside_between, read_back, read, Held, of_wide, held_sum, stored}
 use Rattle.night_portions.specs.Portions.{seventh_of, middle_of, last_third_of}
 use Rattle.night_portions.proofs.Steady.{longest}
 use Rattle.night_portions.proofs.PortionsLaws.{seventh_inside, middle_inside, last_third_inside}
@@ -18,27 +16,6 @@ of_near {n} p l = stored (record { is = p.0; near = subst (Near n) p.0 p.1 }) l
 -- an i32 as an i64, by `from`
 pub of_from : (x : ℤ) {y : ℤ} → SFits w32 x → y ≡ read_back w32 x → Held (2 ^ 31) (read_back w64 y) x
 of_from x f e = stored (record { is = e ∙ read w32 x f; near = (of_wide x f).near }) (lit≤ tt)
-
--- the later and the earlier of two times, by `max` and `min`
-later_is : (a b : ℤ) → int_max a b ≡ later_of a b
-unfolding later_of
-later_is a b =
-    cases (lt_z a b) (λ less. let l = lt_yes a b less in rw (less, to_not_lt b a (omega (arith, l))) refl)
-    (λ not_less. cases (lt_z b a) (λ greater. rw (not_less, greater) refl)
-    (λ not_greater. rw (not_less, not_greater) (same b a (omega (arith, lt_no a b not_less, lt_no b a not_greater)))))
-
-near_either : {n : ℕ} {a b : ℤ} (first : Bool) → Near n a → Near n b → Near n (cond first a b)
-near_either true h k = h
-near_either false h k = k
-
-pub held_later : {n : ℕ} {x y a b : ℤ} → Held n x a → Held n y b → Held n (int_max x y) (later_of a b)
-unfolding later_of
-held_later {n} {x} {y} {a} {b} h k =
-    record { is = both int_max h.is k.is ∙ later_is a b; near = near_either (lt_z a b) k.near h.near }
-
-pub held_earlier : {n : ℕ} {x y a b : ℤ} → Held n x a → Held n y b → Held n (int_min x y) (earlier_of a b)
-unfolding earlier_of
-held_earlier {n} {x} {y} {a} {b} h k = record { is = both int_min h.is k.is; near = near_either (lt_z b a) k.near h.near }
 
 -- a time from 1970 on: the start of its date, and the time from there
 pub on_start : {s r x : ℤ} → (r ≡ s) × Near (2 ^ 58) r → Near (2 ^ 43) x

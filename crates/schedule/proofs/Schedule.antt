@@ -1,7 +1,7 @@
 -- What the functions of this crate and the crates above use of it, from one place. Nothing is added.
 pub use Rattle.std.specs.Prelude.{Some}
 pub use Rattle.schedule.proofs.FajrLaws.{fajr-alone}
-pub use Rattle.schedule.proofs.Promises.{of_near, of_from, held_later, held_earlier, held_middle, held_last_third, both, on_start, held_seventh}
+pub use Rattle.schedule.proofs.Promises.{of_near, of_from, held_middle, held_last_third, both, on_start, held_seventh}
 pub use Rattle.schedule.proofs.SharedLaws.{row_shared, since-unasked}
 pub use Rattle.schedule.proofs.Short.{short_near, short_is}
 pub use Rattle.schedule.proofs.Starts.{start_near}

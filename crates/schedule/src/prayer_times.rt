@@ -12,7 +12,7 @@ ghost use Rattle.schedule.specs.Each.{Each, NearIn};
 ghost use Rattle.schedule.specs.Twilight.{unadjusted_fajr_of};
 
 use super::hours::{RowHours, RowNumbers, ThreeSuns};
-use super::twilight::{Day, or};
+use super::twilight::{Day, Seconds};
 use calendar::dates::Date;
 use models::parameters::Parameters;
 use models::prayer::Prayer;
@@ -25,6 +25,7 @@ use solar::times::SolarTime;
 use whole_minutes::times::{adjust_time, rounded_minute};
 
 // In seconds from 1970-01-01 0h UTC, or from 0h of the date if a function says so. Always in this order: they are not sorted.
+// How near to 0h they are is a clause (Each, NearIn) and no invariant, since the structure is C's and holds the times from 1970 too.
 #[repr(C)]
 #[derive(Clone, Copy)]
 pub struct PrayerTimes {
@@ -47,12 +48,11 @@ struct Night {
 }
 
 // Adds the prayer's own minutes and the method's, then rounds.
-fn final_time(parameters: Parameters, prayer: Prayer, time: i64, rounding: Rounding) -> i64
-    requires { Near (2 ^ 38) time }
-    ensures { (result ≡ rounded_of rounding (adjusted_of time (time_adjustments_of parameters prayer))) × Near (2 ^ 40) result }
+fn final_time(parameters: Parameters, prayer: Prayer, time: Seconds, rounding: Rounding) -> i64
+    ensures { (result ≡ rounded_of rounding (adjusted_of time.count (time_adjustments_of parameters prayer))) × Near (2 ^ 40) result }
 {
     rounded_minute(
-        adjust_time(time, parameters.time_adjustments(prayer)),
+        adjust_time(time.count, parameters.time_adjustments(prayer)),
         rounding,
     )
 }
@@ -79,6 +79,7 @@ fn calculate_qiyam(maghrib: i64, fajr: i64) -> Night
 
 impl Day {
     // Tomorrow's Fajr is adjusted but not rounded.
+    #[tactic(auto, unfolding(crate::specs::Times::fajr_tomorrow_of))]
     fn next_fajr(self, tomorrow: SolarTime, after: SolarTime, hour: Option<i32>) -> i64
         ensures { (result ≡ fajr_tomorrow_of self.parameters self.season self.date tomorrow after hour) × Near (2 ^ 41) result }
     {
@@ -98,11 +99,11 @@ impl Day {
         let rounding = parameters.rounding;
         let today = suns.today;
         let tomorrow = suns.tomorrow;
-        let sunrise = i64::from(today.sunrise);
-        let transit = i64::from(today.transit);
-        let sunset = i64::from(today.sunset);
+        let sunrise = Seconds::from(today.sunrise);
+        let transit = Seconds::from(today.transit);
+        let sunset = Seconds::from(today.sunset);
         let fajr = self.unadjusted_fajr(today, tomorrow, hours.fajr);
-        let asr = or(hours.asr, transit);
+        let asr = transit.unless(hours.asr);
         let isha = self.unadjusted_isha(today, tomorrow, hours.isha);
         let maghrib = final_time(parameters, Prayer::Maghrib, sunset, rounding);
         let fajr_tomorrow = self.next_fajr(tomorrow, suns.after, hours.fajr_tomorrow);
@@ -121,8 +122,10 @@ impl Day {
     }
 
     // The Fajr of the nine times. The other eight are not worked.
+    #[tactic(auto, unfolding(crate::specs::Times::final_of))]
     fn final_fajr(self, suns: ThreeSuns, hour: Option<i32>) -> i64
-        ensures { result ≡ final_of self.parameters Fajr (unadjusted_fajr_of self.parameters self.season self.date suns.today suns.tomorrow hour) }
+        ensures { result ≡ final_of self.parameters Fajr
+            (unadjusted_fajr_of self.parameters self.season self.date suns.today suns.tomorrow hour) }
     {
         let parameters = self.parameters;
         let fajr = self.unadjusted_fajr(suns.today, suns.tomorrow, hour);

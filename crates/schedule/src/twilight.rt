@@ -2,8 +2,8 @@
 // season. Times are seconds from 0h of the date. The sun's times are i32, so an i64 holds every sum here for all parameters.
 ghost use Rattle.std.specs.Prelude.{◌≡◌, ◌^◌, ◌+ℤ◌};
 ghost use Rattle.integers.specs.Parts.{Near};
-ghost use Rattle.schedule.specs.Twilight.{night_of, or_of, by_season_of, by_seventh_of, own_of, short_of, fajr_bound_of};
-ghost use Rattle.schedule.specs.Twilight.{unadjusted_fajr_of, isha_bound_of, bounded_isha_of, unadjusted_isha_of};
+ghost use Rattle.schedule.specs.Twilight.{night_of, later_of, earlier_of, or_of, by_season_of, by_seventh_of, own_of, short_of};
+ghost use Rattle.schedule.specs.Twilight.{fajr_bound_of, unadjusted_fajr_of, isha_bound_of, bounded_isha_of, unadjusted_isha_of};
 
 use calendar::dates::Date;
 use models::method::Method;
@@ -25,6 +25,13 @@ pub struct Day {
     pub parameters: Parameters,
     pub season: Season,
     pub date: Date,
+}
+
+// Seconds from 0h of a date, so near to it that the minutes of every order can be added.
+#[derive(Clone, Copy)]
+pub struct Seconds {
+    pub count: i64,
+    ghost near: { Near (2 ^ 38) count },
 }
 
 // Seconds limited to the range of an i32. No order's seconds come near its ends.
@@ -50,13 +57,56 @@ fn night(today: SolarTime, next: SolarTime) -> i64
     i64::from(next.sunrise) + 86400 - i64::from(today.sunset)
 }
 
-// `hour`'s time, or `other` if it has none.
-#[tactic(auto, unfolding(crate::specs::Twilight::or_of))]
-pub fn or(hour: Option<i32>, other: i64) -> i64
-    requires { Near (2 ^ 38) other }
-    ensures { (result ≡ or_of hour other) × Near (2 ^ 38) result }
-{
-    hour.map_or(other, |time| i64::from(time))
+impl From<i32> for Seconds {
+    ghost from_gives = { λ time seconds. seconds.count ≡ time };
+
+    fn from(time: i32) -> Seconds {
+        Seconds {
+            count: i64::from(time),
+        }
+    }
+}
+
+// Two comparisons are all that is asked of their order, so there is no derived Ord.
+impl Seconds {
+    // `seconds` after a time of the sun.
+    fn after(time: i32, seconds: i64) -> Seconds
+        ensures { result.count ≡ time +ℤ short_of seconds }
+    {
+        Seconds {
+            count: moved(time, seconds),
+        }
+    }
+
+    #[tactic(auto, unfolding(crate::specs::Twilight::later_of))]
+    fn later(self, other: Seconds) -> Seconds
+        ensures { result.count ≡ later_of self.count other.count }
+    {
+        if self.count < other.count {
+            other
+        } else {
+            self
+        }
+    }
+
+    #[tactic(auto, unfolding(crate::specs::Twilight::earlier_of))]
+    fn earlier(self, other: Seconds) -> Seconds
+        ensures { result.count ≡ earlier_of self.count other.count }
+    {
+        if other.count < self.count {
+            other
+        } else {
+            self
+        }
+    }
+
+    // `hour`'s time, or this one if it has none.
+    #[tactic(auto, unfolding(crate::specs::Twilight::or_of))]
+    pub fn unless(self, hour: Option<i32>) -> Seconds
+        ensures { result.count ≡ or_of hour self.count }
+    {
+        hour.map_or(self, Seconds::from)
+    }
 }
 
 // MoonsightingCommittee bounds by season.
@@ -76,18 +126,19 @@ pub fn by_seventh(method: Method, latitude: f64) -> bool
 
 impl Day {
     // The time that is compared with `bound`: the one by a seventh of the night, or the angle's.
-    fn own(self, seventh: i64, hour: Option<i32>, bound: i64) -> i64
-        requires { Near (2 ^ 38) seventh × Near (2 ^ 38) bound }
-        ensures { (result ≡ own_of self.parameters.method self.season.latitude seventh hour bound) × Near (2 ^ 38) result }
+    #[tactic(auto, unfolding(crate::specs::Twilight::own_of))]
+    fn own(self, seventh: Seconds, hour: Option<i32>, bound: Seconds) -> Seconds
+        ensures { result.count ≡ own_of self.parameters.method self.season.latitude seventh.count hour bound.count }
     {
         if by_seventh(self.parameters.method, self.season.latitude) {
             return seventh;
         }
-        or(hour, bound)
+        bound.unless(hour)
     }
 
-    fn fajr_bound(self, today: SolarTime, night: i64) -> i64
-        ensures { (result ≡ fajr_bound_of self.parameters self.season self.date today night) × Near (2 ^ 38) result }
+    #[tactic(auto, unfolding(crate::specs::Twilight::before_sunrise_of))]
+    fn fajr_bound(self, today: SolarTime, night: i64) -> Seconds
+        ensures { result.count ≡ fajr_bound_of self.parameters self.season self.date today night }
     {
         if by_season(self.parameters.method) {
             let seconds = morning_twilight_seconds(
@@ -95,23 +146,27 @@ impl Day {
                 self.date.ordinal(),
                 self.date.year,
             );
-            return moved(today.sunrise, seconds);
+            return Seconds::after(today.sunrise, seconds);
         }
         let portions = self.parameters.night_portions();
-        moved(today.sunrise, portion_before(portions.fajr, night))
+        Seconds::after(today.sunrise, portion_before(portions.fajr, night))
     }
 
-    pub fn unadjusted_fajr(self, today: SolarTime, next: SolarTime, hour: Option<i32>) -> i64
-        ensures { (result ≡ unadjusted_fajr_of self.parameters self.season self.date today next hour) × Near (2 ^ 38) result }
+    #[tactic(auto, unfolding(crate::specs::Twilight::unadjusted_fajr_of))]
+    pub fn unadjusted_fajr(self, today: SolarTime, next: SolarTime, hour: Option<i32>) -> Seconds
+        ensures { result.count ≡ unadjusted_fajr_of self.parameters self.season self.date today next hour }
     {
         let night = night(today, next);
         let bound = self.fajr_bound(today, night);
-        let by_night = i64::from(today.sunrise) - seventh(night);
-        self.own(by_night, hour, bound).max(bound)
+        let by_night = Seconds {
+            count: i64::from(today.sunrise) - seventh(night),
+        };
+        self.own(by_night, hour, bound).later(bound)
     }
 
-    fn isha_bound(self, today: SolarTime, night: i64) -> i64
-        ensures { (result ≡ isha_bound_of self.parameters self.season self.date today night) × Near (2 ^ 38) result }
+    #[tactic(auto, unfolding(crate::specs::Twilight::isha_bound_of, crate::specs::Twilight::after_sunset_of))]
+    fn isha_bound(self, today: SolarTime, night: i64) -> Seconds
+        ensures { result.count ≡ isha_bound_of self.parameters self.season self.date today night }
     {
         if by_season(self.parameters.method) {
             let shafaq = self.parameters.shafaq;
@@ -121,28 +176,36 @@ impl Day {
                 self.date.year,
                 shafaq,
             );
-            return rounded_minute(moved(today.sunset, seconds), Rounding::Nearest);
+            return Seconds {
+                count: rounded_minute(moved(today.sunset, seconds), Rounding::Nearest),
+            };
         }
         let portions = self.parameters.night_portions();
-        moved(today.sunset, portion_after(portions.isha, night))
+        Seconds::after(today.sunset, portion_after(portions.isha, night))
     }
 
     // Isha without an interval.
-    fn bounded_isha(self, today: SolarTime, next: SolarTime, hour: Option<i32>) -> i64
-        ensures { (result ≡ bounded_isha_of self.parameters self.season self.date today next hour) × Near (2 ^ 38) result }
+    #[tactic(auto, unfolding(crate::specs::Twilight::bounded_isha_of))]
+    fn bounded_isha(self, today: SolarTime, next: SolarTime, hour: Option<i32>) -> Seconds
+        ensures { result.count ≡ bounded_isha_of self.parameters self.season self.date today next hour }
     {
         let night = night(today, next);
         let bound = self.isha_bound(today, night);
-        let by_night = i64::from(today.sunset) + seventh(night);
-        self.own(by_night, hour, bound).min(bound)
+        let by_night = Seconds {
+            count: i64::from(today.sunset) + seventh(night),
+        };
+        self.own(by_night, hour, bound).earlier(bound)
     }
 
-    pub fn unadjusted_isha(self, today: SolarTime, next: SolarTime, hour: Option<i32>) -> i64
-        ensures { (result ≡ unadjusted_isha_of self.parameters self.season self.date today next hour) × Near (2 ^ 38) result }
+    #[tactic(auto, unfolding(crate::specs::Twilight::unadjusted_isha_of))]
+    pub fn unadjusted_isha(self, today: SolarTime, next: SolarTime, hour: Option<i32>) -> Seconds
+        ensures { result.count ≡ unadjusted_isha_of self.parameters self.season self.date today next hour }
     {
         let interval = self.parameters.isha_interval;
         if interval > 0 {
-            return i64::from(today.sunset) + i64::from(interval) * 60;
+            return Seconds {
+                count: i64::from(today.sunset) + i64::from(interval) * 60,
+            };
         }
         self.bounded_isha(today, next, hour)
     }

@@ -1,7 +1,7 @@
 -- The carried times: their range, when they are document 01's, and what they are if document 01 has none. Assumes nothing.
 use Rattle.std.specs.Prelude.{None, Option, Some}
 use Rattle.std.specs.Option.{option_or}
-use Rattle.prelude.proofs.Logic.{◌≡◌, refl, sym, ap, subst, ◌∙◌, Bool, true, false, cond, ℕ, ◌+◌, ◌*◌, ◌≤◌, arith, ltb, lit≤, ℤ, pos}
+use Rattle.prelude.proofs.Logic.{◌≡◌, refl, ap, ◌∙◌, Bool, true, false, cond, ℕ, ◌+◌, ◌*◌, ◌≤◌, arith, ltb, lit≤, ℤ, pos}
 use Rattle.prelude.proofs.Logic.{ltb-true}
 use Rattle.float64.proofs.Floats.{Float, is_normal_of, floor_of}
 use Rattle.solar.specs.declared.setting.Placed.{Placed}

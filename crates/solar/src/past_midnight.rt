@@ -34,12 +34,12 @@ fn carried(p: Placed, minute: u32) -> Option<i32>
 pub fn carried_hour(value: f64) -> Option<i32>
     ensures { result ≡ carried_hour_of value }
 {
-    if has_time(value) {
-        if is_normal(value) {
-            let hours = floor(value);
-            return carried(hour_adjustment(hours), minute(value, hours));
-        }
+    if !has_time(value) {
+        return None;
+    }
+    if !is_normal(value) {
         return Some(0);
     }
-    None
+    let hours = floor(value);
+    carried(hour_adjustment(hours), minute(value, hours))
 }

@@ -55,15 +55,11 @@ fn date_minute(value: f64, calculated_hours: f64) -> u32
     ensures { result ≡ minute_of value calculated_hours }
 {
     let minutes = (value - calculated_hours) * 60.0;
-    if 0.0 < minutes {
-        if minutes < 60.0 {
-            let calculated_minutes = floor(minutes);
-            let seconds = (value - (calculated_hours + calculated_minutes / 60.0)) * 60.0 * 60.0;
-            if 0.0 < seconds {
-                if seconds < 60.0 {
-                    return calculated_minutes as u32 + !(seconds < 30.0) as u32;
-                }
-            }
+    if 0.0 < minutes && minutes < 60.0 {
+        let calculated_minutes = floor(minutes);
+        let seconds = (value - (calculated_hours + calculated_minutes / 60.0)) * 60.0 * 60.0;
+        if 0.0 < seconds && seconds < 60.0 {
+            return calculated_minutes as u32 + !(seconds < 30.0) as u32;
         }
     }
     minute(value, calculated_hours)
@@ -105,10 +101,8 @@ fn date_hour(value: f64) -> Option<i32>
 pub fn setting_hour(value: f64) -> Option<i32>
     ensures { result ≡ setting_hour_of value }
 {
-    if 1.0 < value {
-        if value < 24.0 {
-            return date_hour(value);
-        }
+    if 1.0 < value && value < 24.0 {
+        return date_hour(value);
     }
     if is_normal(value) {
         let hours = floor(value);

@@ -1,4 +1,4 @@
-use Rattle.std.specs.Prelude.{Err, Ok, Option, Result, Some}
+use Rattle.std.specs.Prelude.{Err, Ok, Result, Some}
 use Rattle.std.specs.Result.{result_ok}
 use Rattle.prelude.proofs.Logic.{◌≡◌, ◌∙◌, ap, rules, w64}
 use Rattle.integers.proofs.Ranges.{read_back}

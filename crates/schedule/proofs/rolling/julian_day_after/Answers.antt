@@ -3,7 +3,6 @@ use Rattle.prelude.proofs.Logic.{sym, ap, ◌∙◌}
 use Rattle.float64.proofs.Floats.{Float, ◌+ᶠ◌, round, of_bits, dec}
 use Rattle.calendar.specs.declared.dates.Date.{Date}
 use Rattle.julian.proofs.JulianLaws.{julian_tomorrow}
-use Rattle.julian.specs.Julian.{date_julian_day_of}
 use Rattle.schedule.proofs.RowSunsLaws.{moves}
 use Rattle.schedule.proofs.rolling.julian_day_after.Goals as goal
 

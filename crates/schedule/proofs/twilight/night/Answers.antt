@@ -1,5 +1,5 @@
 -- The difference of two times of the sun, a day apart, fits.
-use Rattle.prelude.proofs.Logic.{◌≡◌, lit≤, rules, w32, SFits}
+use Rattle.prelude.proofs.Logic.{lit≤, rules, w32, SFits}
 use Rattle.integers.proofs.Integers.{constant, held_sum, held_difference, stored, promised}
 use Rattle.schedule.specs.Twilight.{night_of}
 use Rattle.schedule.proofs.Promises.{of_from}

@@ -1,36 +1,32 @@
 -- The earlier of the angle's time and the night bound, or a seventh of the night; each is small.
 use Rattle.prelude.proofs.Logic.{◌≡◌, ap, ◌∙◌, lit≤, ℤ, rules, w32, w64, SFits}
-use Rattle.integers.proofs.Integers.{read_back, held_sum, held_by, held_as, held_fits, stored, asked, promised}
-use Rattle.schedule.proofs.Schedule.{own_of, held_earlier, isha_bound_of, bounded_isha_of, both, of_near, of_from, held_seventh}
+use Rattle.integers.proofs.Integers.{read_back, held_sum, held_by, held_fits, stored, asked}
+use Rattle.schedule.proofs.Schedule.{earlier_of, own_of, isha_bound_of, bounded_isha_of, both, of_near, of_from, held_seventh}
 use Rattle.schedule.proofs.twilight.Day.bounded_isha.Goals as goal
 
 pub overflow_add-by_night : goal.overflow_add-by_night
 overflow_add-by_night c =
     let f : SFits w32 c.args.today.sunset = search rules in
     let k : read_back w64 c.seventh.result ≡ c.seventh.result = search rules in
-    let by-night = held_sum (of_from _ f c.from.ensures) (held_by (k ∙ c.seventh.ensures) (held_seventh (of_near c.night-night.ensures (lit≤ tt)))) in
-    held_fits by-night (lit≤ tt)
+    let seventh = held_by (k ∙ c.seventh.ensures) (held_seventh (of_near c.night-night.ensures (lit≤ tt))) in
+    held_fits (held_sum (of_from _ f c.from.ensures) seventh) (lit≤ tt)
 
-pub own-requires : goal.own-requires
-own-requires c =
+pub invariant_of-by_night : goal.invariant_of-by_night
+invariant_of-by_night c =
     let f : SFits w32 c.args.today.sunset = search rules in
     let k : read_back w64 c.seventh.result ≡ c.seventh.result = search rules in
-    let by-night = held_sum (of_from _ f c.from.ensures) (held_by (k ∙ c.seventh.ensures) (held_seventh (of_near c.night-night.ensures (lit≤ tt)))) in (
-      asked (stored by-night (lit≤ tt)) (lit≤ tt),
-      asked (of_near c.isha_bound-bound.ensures (lit≤ tt)) (lit≤ tt),
-    )
+    let seventh = held_by (k ∙ c.seventh.ensures) (held_seventh (of_near c.night-night.ensures (lit≤ tt))) in
+    record { near = asked (stored (held_sum (of_from _ f c.from.ensures) seventh) (lit≤ tt)) (lit≤ tt) }
 
 pub returns : goal.returns
 unfolding bounded_isha_of
 returns c =
+    let day = c.args.self in
     let f : SFits w32 c.args.today.sunset = search rules in
     let k : read_back w64 c.seventh.result ≡ c.seventh.result = search rules in
-    let by-night = held_sum (of_from _ f c.from.ensures) (held_by (k ∙ c.seventh.ensures) (held_seventh (of_near c.night-night.ensures (lit≤ tt)))) in
-    let n = of_near c.night-night.ensures (lit≤ tt) in
-    let b = of_near c.isha_bound-bound.ensures (lit≤ tt) in
-    let value = ap (isha_bound_of c.args.self.parameters c.args.self.season c.args.self.date c.args.today) n.is in
-    let o = of_near c.own.ensures (lit≤ tt) in
-    let own = both (λ (s y : ℤ). own_of c.args.self.parameters.method c.args.self.season.latitude s c.args.hour y)
-    (stored by-night (lit≤ tt)).is (b.is ∙ value) in
-    let k-min : read_back w64 c.min.result ≡ c.min.result = search rules in
-    promised (held_by (k-min ∙ c.min.ensures.value) (held_earlier (held_as o own) (held_as b value))) (lit≤ tt)
+    let night = of_near c.night-night.ensures (lit≤ tt) in
+    let by-night = stored (held_sum (of_from _ f c.from.ensures) (held_by (k ∙ c.seventh.ensures) (held_seventh night))) (lit≤ tt) in
+    let bound = c.isha_bound-bound.ensures ∙ ap (isha_bound_of day.parameters day.season day.date c.args.today) night.is in
+    let own = c.own.ensures
+    ∙ both (λ (s y : ℤ). own_of day.parameters.method day.season.latitude s c.args.hour y) by-night.is bound in
+    c.earlier.ensures ∙ both earlier_of own bound

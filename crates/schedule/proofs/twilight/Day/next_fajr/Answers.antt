@@ -13,8 +13,7 @@ pub returns : goal.returns
 unfolding fajr_tomorrow_of
 returns c =
     let p = c.args.self.parameters in
-    let u = of_near c.unadjusted_fajr-fajr.ensures (lit≤ tt) in
-    let fajr = u.is ∙ ap (λ (d : Date). unadjusted_fajr_of p c.args.self.season d c.args.tomorrow c.args.after c.args.hour)
+    let fajr = c.unadjusted_fajr-fajr.ensures ∙ ap (λ (d : Date). unadjusted_fajr_of p c.args.self.season d c.args.tomorrow c.args.after c.args.hour)
     c.tomorrow.ensures in
     let adjusted = none_stays _ ∙ ap (λ (z : ℤ). adjusted_of z (time_adjustments_of p Fajr)) fajr in
     promised (held_as (stored (held_sum (of_near c.final_time.ensures (lit≤ tt)) (constant 86400)) (lit≤ tt)) (ap next_day_of adjusted))
