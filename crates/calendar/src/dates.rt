@@ -98,6 +98,7 @@ impl Date {
         }
     }
 
+    // The source's own signature: `next_date_of` speaks of `fwd`.
     pub fn next_date(self, fwd: bool) -> Date
         ensures { result ≡ next_date_of self fwd }
     {

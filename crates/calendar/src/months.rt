@@ -22,7 +22,9 @@ pub fn days_before(leap: bool, month: u32) -> u32
 }
 
 // The difference of two neighbours in the row; 0 for a month that is not from 1 to 12.
-#[tactic(auto, using(crate::proofs::MonthTables::before_next, crate::proofs::MonthTables::length_past, crate::proofs::MonthTables::length_december))]
+#[tactic(auto, using(
+// December is the last month.
+crate::proofs::MonthTables::before_next, crate::proofs::MonthTables::length_past, crate::proofs::MonthTables::length_december))]
 pub fn month_days(leap: bool, month: u32) -> u32
     ensures { result ≡ length_of leap month }
 {

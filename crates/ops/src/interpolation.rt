@@ -32,7 +32,7 @@ impl Interpolation {
         }
     }
 
-    // Of angles, whose differences are unwound.
+    // Of angles, whose differences are unwound. One function for both would need a trait that is longer than the line in which they differ.
     pub fn of_angles(value: Angle, previous_value: Angle, next_value: Angle) -> Interpolation
         ensures { result ≡ angle_differences_of value previous_value next_value }
     {

@@ -29,6 +29,7 @@ use models::rules::{Season, Southern};
 use models::shafaq::Shafaq;
 use whole_minutes::times::{plus, rounded_minute};
 
+// The source's own: `twilight_adjustment_values_of` speaks of it.
 #[derive(Clone, Copy)]
 pub enum AdjustmentDaytime {
     Morning,

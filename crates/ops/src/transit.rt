@@ -234,6 +234,7 @@ pub fn corrected_transit(
     (approximate_transit + angle_delta.degrees) * 24.0
 }
 
+// The source's own signature: `corrected_hour_angle_of` has the eleven values one by one.
 pub fn corrected_hour_angle(
     approximate_transit: f64,
     angle: Angle,
