@@ -26,18 +26,14 @@ fn rows_on(order: Order, page: u32) -> u32
         return 0;
     }
     let left = order.rows - before as u32;
-    if left < PAGE_ROWS { left } else { PAGE_ROWS }
+    left.min(PAGE_ROWS)
 }
 
 // The number of rows that fit and are left.
 fn rows_that_fit(room: usize, left: u32) -> u32
     ensures { result ≡ min room left }
 {
-    if room < left as usize {
-        room as u32
-    } else {
-        left
-    }
+    room.min(left as usize) as u32
 }
 
 fn write_read(order: Order, page: u32, first: u32, scratch: &mut [u8]) -> Punched
@@ -54,7 +50,7 @@ fn write_read(order: Order, page: u32, first: u32, scratch: &mut [u8]) -> Punche
         order,
         PAGE_ROWS * (page - 1) + first,
         taken,
-        &mut scratch[..],
+        scratch,
     )
 }
 
@@ -68,7 +64,7 @@ pub fn write_page(order: &[u8], page: u32, first: u32, scratch: &mut [u8]) -> Pu
         return Punched::refused(Refusal::new(BUFFER_SHORT, 0));
     }
     match read(order) {
-        Ok(order) => write_read(order, page, first, &mut scratch[..]),
+        Ok(order) => write_read(order, page, first, scratch),
         Err(refusal) => Punched::refused(refusal),
     }
 }

@@ -6,4 +6,4 @@ use Rattle.braille.proofs.row.full_row.Given as goal
 
 abbrev pub invariant-loop-i : goal.invariant-loop-i
 invariant-loop-i l =
-    (length l.cells ≡ 39) × (length l.initial.cells ≡ 39) × (l.cells ≡ put_of l.initial.cells 3 (times_cells l.clock (take l.i l.six)))
+    (length l.cells ≡ 39) × (length l.initial.cells ≡ 39) × (l.cells ≡ put_of l.initial.cells 3 (times_cells l.clock (take l.i l.time-items)))
