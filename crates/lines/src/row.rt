@@ -26,7 +26,11 @@ const RAMADAN_ROW_BYTES: usize = ROW_BYTES + TIME_BYTES;
 pub fn row_bytes(ramadan: Ramadan) -> usize
     ensures { result ≡ row_room ramadan }
 {
-    if ramadan.set { RAMADAN_ROW_BYTES } else { ROW_BYTES }
+    if ramadan.set {
+        RAMADAN_ROW_BYTES
+    } else {
+        ROW_BYTES
+    }
 }
 
 // So many minutes before Fajr, or the earliest instant that 64 bits hold.

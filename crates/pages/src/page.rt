@@ -46,12 +46,7 @@ fn write_read(order: Order, page: u32, first: u32, scratch: &mut [u8]) -> Punche
         return Punched::refused(lacks_row());
     }
     let taken = rows_that_fit(scratch.len() / ROW_CELLS, count - first);
-    write_rows(
-        order,
-        PAGE_ROWS * (page - 1) + first,
-        taken,
-        scratch,
-    )
+    write_rows(order, PAGE_ROWS * (page - 1) + first, taken, scratch)
 }
 
 // Writes the rows of a page from its row `first` on, as many as fit the scratch and are left. Returns 9 if the scratch is shorter than one

@@ -1,7 +1,7 @@
 -- Document 02, request 11: the report's lines. "prints a line a window: its first row, the earliest, that one's row, the latest, that one's
 -- row, in decimal (a minus only below zero), a blank between; a window with a refused day prints its first row, a blank and `refused`".
 use Rattle.weeks.specs.declared.window.Extremes.{Extremes}
-use Rattle.std.specs.Prelude.{ℕ, zero, suc, ◌+◌, ◌-◌, List, [], ◌++◌, ℤ, None, Option, Some}
+use Rattle.std.specs.Prelude.{ℕ, zero, suc, ◌-◌, List, [], ◌++◌, ℤ, None, Option, Some}
 use Rattle.text.specs.Signed.{signed_of}
 use Rattle.text.specs.Text.{ascii, decimal_of}
 use Rattle.weeks.specs.Windows.{window_of}

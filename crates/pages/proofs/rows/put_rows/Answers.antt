@@ -32,8 +32,9 @@ overflow_add-dots c =
     let within : l.next < c.args.end = omega arith in
     let few : l.next < o.rows = omega (arith, p.2) in
     let state : c.if-next-row.suns ≡ state_of o l.next = elim c.if-next-row.branch [
-      then-next-row w ↦ w.suns-is ∙ w.next-suns.ensures ∙ rolled_suns o p.0 c.args.row l.next l.suns few l.invariant.state w.if-next-row.true
-    | else-next-row w ↦ w.suns-is ∙ first_suns o c.args.row l.next l.suns l.invariant.state from w.if-next-row.false ] in
+      | then-next-row w ↦ w.suns-is ∙ w.next-suns.ensures ∙ rolled_suns o p.0 c.args.row l.next l.suns few l.invariant.state w.if-next-row.true
+      | else-next-row w ↦ w.suns-is ∙ first_suns o c.args.row l.next l.suns l.invariant.state from w.if-next-row.false
+    ] in
     let put = c.put_cells-dots in
     let k = read w32 o.clock (clock_fits_lem o p.0) in
     let m = run_row o c.args.row c.args.end p.0 p.2 c.args.buffer.now l.buffer c.if-next-row.suns l.suns l.next l.dots l.invariant from within state
@@ -53,8 +54,9 @@ loop-next-preserved c =
     let within : l.next < c.args.end = omega arith in
     let few : l.next < o.rows = omega (arith, p.2) in
     let state : c.if-next-row.suns ≡ state_of o l.next = elim c.if-next-row.branch [
-      then-next-row w ↦ w.suns-is ∙ w.next-suns.ensures ∙ rolled_suns o p.0 c.args.row l.next l.suns few l.invariant.state w.if-next-row.true
-    | else-next-row w ↦ w.suns-is ∙ first_suns o c.args.row l.next l.suns l.invariant.state from w.if-next-row.false ] in
+      | then-next-row w ↦ w.suns-is ∙ w.next-suns.ensures ∙ rolled_suns o p.0 c.args.row l.next l.suns few l.invariant.state w.if-next-row.true
+      | else-next-row w ↦ w.suns-is ∙ first_suns o c.args.row l.next l.suns l.invariant.state from w.if-next-row.false
+    ] in
     let put = c.put_cells-dots in
     let k = read w32 o.clock (clock_fits_lem o p.0) in
     let m = run_row o c.args.row c.args.end p.0 p.2 c.args.buffer.now l.buffer c.if-next-row.suns l.suns l.next l.dots l.invariant from within state

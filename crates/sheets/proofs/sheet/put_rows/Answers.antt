@@ -22,8 +22,9 @@ overflow_add-end c =
     let put = c.put_line-end in
     let e = c.since_midnight-worked.ensures in
     let state : c.if-row-gt0.suns ≡ state_of o l.row = elim c.if-row-gt0.branch [
-      then-row-gt0 w ↦ w.suns-is ∙ w.next-suns.ensures ∙ rolled o p.0 l.row h l.suns l.invariant.state w.if-row-gt0.true
-    | else-row-gt0 w ↦ w.suns-is ∙ at_first o p.0 l.row l.suns l.invariant.state w.if-row-gt0.false ] in
+      | then-row-gt0 w ↦ w.suns-is ∙ w.next-suns.ensures ∙ rolled o p.0 l.row h l.suns l.invariant.state w.if-row-gt0.true
+      | else-row-gt0 w ↦ w.suns-is ∙ at_first o p.0 l.row l.suns l.invariant.state w.if-row-gt0.false
+    ] in
     let n = run-line o p.0 c.args.buffer.now c.args.at p.1 l.buffer c.if-row-gt0.suns l.suns l.row l.end l.invariant h state _
     put.new.buffer put.result
     (since_line o p.0 c.if-row-gt0.suns l.row h state _ e.0 e.1) put.ensures.value put.ensures.buffer_after in
@@ -38,8 +39,9 @@ loop-row-preserved c =
     let put = c.put_line-end in
     let e = c.since_midnight-worked.ensures in
     let state : c.if-row-gt0.suns ≡ state_of o l.row = elim c.if-row-gt0.branch [
-      then-row-gt0 w ↦ w.suns-is ∙ w.next-suns.ensures ∙ rolled o p.0 l.row h l.suns l.invariant.state w.if-row-gt0.true
-    | else-row-gt0 w ↦ w.suns-is ∙ at_first o p.0 l.row l.suns l.invariant.state w.if-row-gt0.false ] in
+      | then-row-gt0 w ↦ w.suns-is ∙ w.next-suns.ensures ∙ rolled o p.0 l.row h l.suns l.invariant.state w.if-row-gt0.true
+      | else-row-gt0 w ↦ w.suns-is ∙ at_first o p.0 l.row l.suns l.invariant.state w.if-row-gt0.false
+    ] in
     let n = run-line o p.0 c.args.buffer.now c.args.at p.1 l.buffer c.if-row-gt0.suns l.suns l.row l.end l.invariant h state _
     put.new.buffer put.result
     (since_line o p.0 c.if-row-gt0.suns l.row h state _ e.0 e.1) put.ensures.value put.ensures.buffer_after in

@@ -1,8 +1,6 @@
 -- The pieces of either line, each put where the one before it ends.
-use Rattle.prelude.proofs.Logic.{◌≡◌, ◌+◌, ◌≤◌, arith, length, rules, w64}
+use Rattle.prelude.proofs.Logic.{◌≡◌, arith, length, rules, w64}
 use Rattle.integers.proofs.Ranges.{read}
-use Rattle.text.specs.Text.{put_of}
-use Rattle.weeks.specs.Lines.{pair_text}
 use Rattle.weeks.proofs.LineLaws.{line_front, found_bytes, refused_bytes, found-made, refused-made}
 use Rattle.weeks.proofs.line.put_window.Goals as goal
 

@@ -1,5 +1,5 @@
 -- The minutes that are kept are those of the definition.
-use Rattle.prelude.proofs.Logic.{◌≡◌, ◌∙◌, ◌≤◌, arith, length, take, length-take-le, rules}
+use Rattle.prelude.proofs.Logic.{◌≡◌, ◌∙◌, arith, length, take, length-take-le, rules}
 use Rattle.weeks.specs.{Kept.minute_in_list, Report.row_minute}
 use Rattle.weeks.proofs.ReportLaws.{report-same, minute_take}
 use Rattle.weeks.proofs.report.put_report.Goals as goal

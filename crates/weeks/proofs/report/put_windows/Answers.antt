@@ -12,7 +12,7 @@ put_window-end-requires c =
     let more : l.first + 6 < length c.args.minutes.now = omega arith in
     rw c.window_from.ensures
     (line-room (minute_in_list c.args.minutes.now) (length c.args.minutes.now) c.requires.0 c.args.buffer.now c.requires.1 l.buffer l.first l.end
-        l.invariant more)
+    l.invariant more)
 
 pub loop-first-preserved : goal.loop-first-preserved
 loop-first-preserved c =

@@ -1,5 +1,5 @@
 use Rattle.std.specs.Prelude.{Some}
-use Rattle.prelude.proofs.Logic.{◌≡◌, ap, ◌∙◌, ◌+◌, rules, w64}
+use Rattle.prelude.proofs.Logic.{ap, ◌∙◌, rules, w64}
 use Rattle.integers.proofs.Ranges.{read}
 use Rattle.weeks.specs.{Kept.minute_in_list, Windows.seen_of}
 use Rattle.weeks.proofs.ReportLaws.{first-refused, first-there, row-refused}
@@ -19,4 +19,4 @@ returns-in_err-minutes-2 c =
     let l = c.loop-row in
     c.from_residual-in_err-minutes-2.ensures
     ∙ row-refused (minute_in_list c.args.minutes.now) c.args.first (Some l.window) l.row l.invariant c.loop-row-test.true
-        (ap (seen_of (Some l.window) l.row) c.in_err-minutes-2.was)
+    (ap (seen_of (Some l.window) l.row) c.in_err-minutes-2.was)

@@ -1,6 +1,6 @@
 use Rattle.prelude.proofs.Logic.{◌≡◌, ap, ◌∙◌, true, false, lt_z, rules, w64}
 use Rattle.integers.proofs.Ranges.{read}
-use Rattle.weeks.specs.Windows.{earlier_in, later_in}
+use Rattle.weeks.specs.Windows.{earlier_in}
 use Rattle.weeks.specs.declared.window.Extremes.{Extremes}
 use Rattle.weeks.proofs.ReportLaws.{earlier_yes, earlier_no, later_yes, later_no}
 use Rattle.weeks.proofs.window.Extremes.with.Goals as goal
@@ -13,10 +13,13 @@ returns-then-self-minute c =
     let m = read w64 a.minute c.ranges.minute in
     let early = read w64 a.self.earliest (search rules) in
     let first : y ≡ earlier_in a.self a.row a.minute = elim c.if-minute-self.branch [
-      then-minute-self w ↦ w.self-is ∙ rw m (earlier_yes a.self a.row a.minute (rw (m, early) at w.if-minute-self.true))
-    | else-minute-self w ↦ w.self-is ∙ earlier_no a.self a.row a.minute (rw (m, early) at w.if-minute-self.false) ] in
+      | then-minute-self w ↦ w.self-is ∙ rw m (earlier_yes a.self a.row a.minute (rw (m, early) at w.if-minute-self.true))
+      | else-minute-self w ↦ w.self-is ∙ earlier_no a.self a.row a.minute (rw (m, early) at w.if-minute-self.false)
+    ] in
     let kept : y.latest ≡ a.self.latest = elim c.if-minute-self.branch [
-      then-minute-self w ↦ ap (λ (e : Extremes). e.latest) w.self-is | else-minute-self w ↦ ap (λ (e : Extremes). e.latest) w.self-is ] in
+      | then-minute-self w ↦ ap (λ (e : Extremes). e.latest) w.self-is
+      | else-minute-self w ↦ ap (λ (e : Extremes). e.latest) w.self-is
+    ] in
     let test : lt_z y.latest a.minute ≡ true = rw kept (rw (kept, read w64 a.self.latest (search rules), m) at c.if-self-minute.true) in
     rw (← first, m) (later_yes y a.row a.minute test)
 
@@ -27,9 +30,12 @@ returns-else-self-minute c =
     let m = read w64 a.minute c.ranges.minute in
     let early = read w64 a.self.earliest (search rules) in
     let first : y ≡ earlier_in a.self a.row a.minute = elim c.if-minute-self.branch [
-      then-minute-self w ↦ w.self-is ∙ rw m (earlier_yes a.self a.row a.minute (rw (m, early) at w.if-minute-self.true))
-    | else-minute-self w ↦ w.self-is ∙ earlier_no a.self a.row a.minute (rw (m, early) at w.if-minute-self.false) ] in
+      | then-minute-self w ↦ w.self-is ∙ rw m (earlier_yes a.self a.row a.minute (rw (m, early) at w.if-minute-self.true))
+      | else-minute-self w ↦ w.self-is ∙ earlier_no a.self a.row a.minute (rw (m, early) at w.if-minute-self.false)
+    ] in
     let kept : y.latest ≡ a.self.latest = elim c.if-minute-self.branch [
-      then-minute-self w ↦ ap (λ (e : Extremes). e.latest) w.self-is | else-minute-self w ↦ ap (λ (e : Extremes). e.latest) w.self-is ] in
+      | then-minute-self w ↦ ap (λ (e : Extremes). e.latest) w.self-is
+      | else-minute-self w ↦ ap (λ (e : Extremes). e.latest) w.self-is
+    ] in
     let test : lt_z y.latest a.minute ≡ false = rw kept (rw (kept, read w64 a.self.latest (search rules), m) at c.if-self-minute.false) in
     rw (← first) (later_no y a.row a.minute test)
