@@ -28,7 +28,7 @@ module _ (s : List ℕ) (at : ℕ) (seen : List Bool) (tag size : ℕ) (again : 
   abbrev its : Refusal
   its = refusal (fault_in tag size again (length s - at)) at
 
-  fault_is : fault_in tag size again (length s - at) ≡ fault_of s seen at
+  pub fault_is : fault_in tag size again (length s - at) ≡ fault_of s seen at
   unfolding fault_of
   fault_is = rw (is_again, is_tag, is_size) refl
 
