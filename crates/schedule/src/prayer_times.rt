@@ -211,7 +211,7 @@ pub fn fajr_alone(
         season,
         date,
     };
-    Some(day.final_fajr(suns.ok()?, hour))
+    suns.ok().map(|three| day.final_fajr(three, hour))
 }
 
 impl PrayerTimes {
