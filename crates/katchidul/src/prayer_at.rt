@@ -34,10 +34,7 @@ fn prayer_answer(answer: Result<Option<Prayer>, Refusal>) -> KatchidulPrayer
             refusal: Refusal::none(),
             prayer: current_number(current),
         },
-        Err(refusal) => KatchidulPrayer {
-            refusal,
-            prayer: 0,
-        },
+        Err(refusal) => KatchidulPrayer { refusal, prayer: 0 },
     }
 }
 
@@ -49,7 +46,14 @@ pub fn katchidul_prayer_at(
 ) -> KatchidulPrayer
     ensures { result ≡ prayer_got order.now row (instant_of seconds nanoseconds) }
 {
-    prayer_answer(prayer_at(order, row, Instant { seconds, nanoseconds }))
+    prayer_answer(prayer_at(
+        order,
+        row,
+        Instant {
+            seconds,
+            nanoseconds,
+        },
+    ))
 }
 
 fn next_answer(answer: Result<Prayer, Refusal>) -> KatchidulPrayer
@@ -60,15 +64,19 @@ fn next_answer(answer: Result<Prayer, Refusal>) -> KatchidulPrayer
             refusal: Refusal::none(),
             prayer: prayer.number(),
         },
-        Err(refusal) => KatchidulPrayer {
-            refusal,
-            prayer: 0,
-        },
+        Err(refusal) => KatchidulPrayer { refusal, prayer: 0 },
     }
 }
 
 pub fn katchidul_next_at(order: &[u8], row: u32, seconds: i64, nanoseconds: u32) -> KatchidulPrayer
     ensures { result ≡ next_answer_of (next_at_of order.now row (instant_of seconds nanoseconds)) }
 {
-    next_answer(next_at(order, row, Instant { seconds, nanoseconds }))
+    next_answer(next_at(
+        order,
+        row,
+        Instant {
+            seconds,
+            nanoseconds,
+        },
+    ))
 }

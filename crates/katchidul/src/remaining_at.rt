@@ -40,5 +40,12 @@ pub fn katchidul_remaining_at(
 ) -> KatchidulRemaining
     ensures { result ≡ remaining_answer_of (remaining_at_of order.now row (instant_of seconds nanoseconds)) }
 {
-    remaining_answer(remaining_at(order, row, Instant { seconds, nanoseconds }))
+    remaining_answer(remaining_at(
+        order,
+        row,
+        Instant {
+            seconds,
+            nanoseconds,
+        },
+    ))
 }

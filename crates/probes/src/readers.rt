@@ -25,11 +25,10 @@ fn answer(reading: Result<Order, Refusal>) -> ProbeOrder
     match reading {
         Ok(order) => {
             let parameters = order.setting.parameters;
-            let method_minutes = parameters.method_adjustments;
             ProbeOrder {
                 numbers,
                 maghrib_angle: parameters.maghrib_angle,
-                method_minutes,
+                method_minutes: parameters.method_adjustments,
             }
         }
         Err(_) => ProbeOrder {

@@ -60,22 +60,16 @@ pub struct ProbeDay {
 fn parameters(s: ProbeSettings) -> Parameters
     ensures { result ≡ parameters_from s }
 {
-    let preset = Method::of_number(s.method).parameters();
-    let method = preset.method;
-    let method_adjustments = preset.method_adjustments;
-    let minutes = s.minutes;
     Parameters {
-        method,
         fajr_angle: s.fajr_angle,
-        maghrib_angle: preset.maghrib_angle,
         isha_angle: s.isha_angle,
         isha_interval: s.isha_interval,
         madhab: Madhab::of_number(s.madhab),
         high_latitude_rule: HighLatitudeRule::of_number(s.high_latitude_rule),
-        adjustments: minutes,
-        method_adjustments,
+        adjustments: s.minutes,
         rounding: Rounding::of_number(s.rounding),
         shafaq: Shafaq::of_number(s.shafaq),
+        ..Method::of_number(s.method).parameters()
     }
 }
 
@@ -165,7 +159,10 @@ fn number(current: Option<Prayer>) -> u32
 pub extern "C" fn probe_current(times: PrayerTimes, seconds: i64, nanoseconds: u32) -> u32
     ensures { result ≡ current_number_of (current_time_of times (instant_of seconds nanoseconds)) }
 {
-    number(times.current_time(Instant { seconds, nanoseconds }))
+    number(times.current_time(Instant {
+        seconds,
+        nanoseconds,
+    }))
 }
 
 // The number of the next prayer, or 0 if none is in force.
@@ -173,7 +170,10 @@ pub extern "C" fn probe_current(times: PrayerTimes, seconds: i64, nanoseconds: u
 pub extern "C" fn probe_next(times: PrayerTimes, seconds: i64, nanoseconds: u32) -> u32
     ensures { result ≡ current_number_of (next_of times (instant_of seconds nanoseconds)) }
 {
-    number(times.next(Instant { seconds, nanoseconds }))
+    number(times.next(Instant {
+        seconds,
+        nanoseconds,
+    }))
 }
 
 // The time until the next prayer. If none is in force, `found` is false and the numbers are 0.
@@ -210,5 +210,8 @@ pub extern "C" fn probe_remaining(
 ) -> ProbeRemaining
     ensures { result ≡ probe_remaining_of (time_remaining_of times (instant_of seconds nanoseconds)) }
 {
-    hours_minutes(times.time_remaining(Instant { seconds, nanoseconds }))
+    hours_minutes(times.time_remaining(Instant {
+        seconds,
+        nanoseconds,
+    }))
 }
