@@ -27,8 +27,8 @@ fn refuse(number: u32, place: u32) -> Log
     ensures { result ≡ refused number place }
 {
     Log {
-        number: number,
-        place: place,
+        number,
+        place,
         moved: 0,
         finished: 0,
         sent: 0,
@@ -42,10 +42,10 @@ fn answer(moved: u32, says: State, used: usize) -> Log
     Log {
         number: 0,
         place: 0,
-        moved: moved,
+        moved,
         finished: u32::from(says.finished),
         sent: u32::from(says.sent),
-        used: used,
+        used,
     }
 }
 

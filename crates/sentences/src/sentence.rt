@@ -13,7 +13,7 @@ fn refuse(number: u32) -> WrittenSentence
     ensures { result ≡ unwritten number }
 {
     WrittenSentence {
-        number: number,
+        number,
         place: 0,
         length: 0,
     }
