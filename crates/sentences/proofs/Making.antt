@@ -1,6 +1,7 @@
 -- The line that is made of the words, a blank and the place's digits, and what the two calls return. Assumes nothing.
 use Rattle.prelude.proofs.Logic.{◌≡◌, refl, sym, ap, ◌∙◌, true, false, cond, ◌&&◌, List, [], ◌∷◌, ◌++◌, ℕ, ◌+◌, ◌≤◌, ◌<◌, arith, ltb}
-use Rattle.prelude.proofs.Logic.{length, take, length-append, le-ltb, le-leb, lt-leb, ltb-false, cases}
+use Rattle.prelude.proofs.Logic.{length, take, length-append, le-ltb, le-leb, lt-leb, cases}
+use Rattle.prelude.proofs.Logic.{eqb, eqb-true, eqb-false, lt-ltb}
 use Rattle.std.proofs.Common.{Bool, Option, Some, None, nat_eq}
 use Rattle.std.specs.Bool.{then_some}
 use Rattle.std.specs.Cmp.Lexicographic.{pointwise}
@@ -14,7 +15,7 @@ use Rattle.sentences.specs.Sentences.{ends_in_colon, words_of, sentence_of, writ
 use Rattle.sentences.proofs.Comparing.{pointwise_same}
 use Rattle.sentences.proofs.Lines.{text_fine, name_fine}
 use Rattle.sentences.proofs.Guessing.{ten_digits}
-use Rattle.sentences.proofs.Promises.{words_named, words_alone, words_short, words_long, sentence_known}
+use Rattle.sentences.proofs.Promises.{words_named, words_alone, words_short, sentence_known}
 use Rattle.sentences.proofs.Promises.{sentence_length}
 
 -- ---- the words
@@ -39,20 +40,23 @@ module _ (n p : ℕ) (line t a : List ℕ) (e : t ≡ text_of n) (l : length lin
         put_next line (text_of n) (name_of p) a b (length (text_of n)) front refl r (omega arith) ∙ ap (λ (t : List ℕ). front_of t line) w,
       )
 
--- ---- whether a number is known, by the length of its words or of its sentence
-pub unknown_by_words : (n p : ℕ) → length (words_of n p) ≡ 0 → known n ≡ false
-unknown_by_words n p h = let l = words_long n p in le-ltb 0 (length (text_of n)) (omega arith)
-
-pub empty : (l : List ℕ) → length l ≡ 0 → l ≡ []
+-- ---- whether a number is known, by its text
+empty : (l : List ℕ) → length l ≡ 0 → l ≡ []
 empty [] e = refl
 empty (b ∷ bs) e = absurd (omega arith)
 
-no_words : (n p : ℕ) → length (text_of n) ≡ 0 → length (words_of n p) ≡ 0
+no_words : (n p : ℕ) → text_of n ≡ [] → words_of n p ≡ []
 unfolding words_of
-no_words n p z = rw (empty (text_of n) z)
+no_words n p e = rw e
 
-pub known_by_words : (n p : ℕ) → (length (words_of n p) ≡ 0 → ⊥) → known n ≡ true
-known_by_words n p h = cases (known n) (λ k. k) (λ k. absurd (let l = ltb-false 0 (length (text_of n)) k in h (no_words n p (omega arith))))
+module _ (n p : ℕ) (line t : List ℕ) (e : t ≡ text_of n) where
+  pub no_text : eqb (length t) 0 ≡ true → (known n ≡ false) × (line ≡ front_of (words_of n p) line)
+  no_text h =
+      let z = eqb-true (length t) 0 h in
+      (le-ltb 0 (length (text_of n)) (omega (arith, ap length e)), rw (no_words n p (sym e ∙ empty t z)))
+
+  pub some_text : eqb (length t) 0 ≡ false → known n ≡ true
+  some_text h = let z = eqb-false (length t) 0 h in lt-ltb 0 (length (text_of n)) (omega (arith, ap length e))
 
 -- ---- the words, a blank and the place's digits at the front of a line
 module _ (n p : ℕ) (line a b c : List ℕ) (w d : ℕ) (l : length line ≡ 100) (h : p < none) (e : w ≡ length (words_of n p))

@@ -8,29 +8,30 @@ use super::table::{name_of, text_of};
 use text::decimal::put_decimal;
 use text::put::put;
 
-// Writes the words before the place: the text, and after a colon the name of the tag that the place is. Returns their length.
-fn put_words(line: &mut [u8; 100], number: u32, place: u32) -> usize
-    ensures value { result ≡ length (words_of number place) }
+// Writes the words before the place: the text, and after a colon the name of the tag that the place is. Returns their length, or None for an
+// unknown number.
+fn put_words(line: &mut [u8; 100], number: u32, place: u32) -> Option<usize>
+    ensures value { MatchOption result (known number ≡ false) (λ n. (known number ≡ true) × (n ≡ length (words_of number place))) }
     ensures line_after { line.new ≡ front_of (words_of number place) line.old }
 {
     let text = text_of(number);
+    if text.is_empty() {
+        return None;
+    }
     put(&mut line[..], 0, text.as_bytes());
     if !text.ends_with(':') {
-        return text.len();
+        return Some(text.len());
     }
     let name = name_of(place);
     put(&mut line[..], text.len(), name.as_bytes());
-    text.len() + name.len()
+    Some(text.len() + name.len())
 }
 
 // Writes the sentence into the line, or returns None for an unknown number.
 pub fn put_sentence<'a>(line: &'a mut [u8; 100], number: u32, place: u32) -> Option<&'a [u8]>
     ensures { MatchOption result (known number ≡ false) (λ s. (known number ≡ true) × (s.now ≡ sentence_of number place)) }
 {
-    let words = put_words(&mut *line, number, place);
-    if words == 0 {
-        return None;
-    }
+    let words = put_words(&mut *line, number, place)?;
     put(&mut line[..], words, b" ");
     let digits = put_decimal(&mut line[..], words + 1, u64::from(place));
     Some(&line[..words + 1 + digits])
