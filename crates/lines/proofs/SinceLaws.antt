@@ -3,7 +3,7 @@ use Rattle.std.specs.Prelude.{Err, Ok, Result}
 use Rattle.refusals.specs.declared.Refusal.{Refusal}
 use Rattle.prelude.proofs.Logic.{◌≡◌, refl, ap, ◌∙◌, Bool, true, false, cond, List, [], ◌∷◌, ◌++◌, ℕ, ◌*◌, ◌^◌, ◌<◌, arith, lit<, ℤ, pos}
 use Rattle.prelude.proofs.Logic.{◌+ℤ◌, ◌-ℤ◌, ◌*ℤ◌}
-use Rattle.integers.proofs.Integers.{P, N, Near, floor_quot, floor_rem, floored, same, to_le, sum, difference, times}
+use Rattle.integers.proofs.Integers.{Near, floor_quot, floor_rem, floored, same, to_le, sum, difference, times}
 use Rattle.integers.specs.Ends.{least64}
 use Rattle.calendar.specs.Days.{day_number_of}
 use Rattle.calendar.specs.declared.dates.Date.{Date}
@@ -13,7 +13,7 @@ use Rattle.schedule.specs.Each.{NearIn}
 use Rattle.schedule.specs.Times.{start_of, started_of, started_in}
 use Rattle.schedule.specs.declared.prayer_times.PrayerTimes.{PrayerTimes}
 use Rattle.text.specs.Text.{ascii}
-use Rattle.lines.specs.Lines.{days_of, time_text, imsak_of, nine_of, columns_of, times_text, date_text, row_text, line_text}
+use Rattle.lines.specs.Lines.{time_text, imsak_of, nine_of, columns_of, times_text, date_text, row_text, line_text}
 use Rattle.lines.specs.Since.{epoch, row_since, line_since}
 use Rattle.lines.proofs.Moments.{on_day, since_days}
 

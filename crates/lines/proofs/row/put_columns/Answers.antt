@@ -1,5 +1,5 @@
 -- Three ends: two without room at the offset, and one in which that part of the buffer becomes the row's text.
-use Rattle.prelude.proofs.Logic.{sym, ap, ◌∙◌, ◌+◌, ◌-◌, ◌*◌, ◌++◌, List, ℕ, arith, length, take, drop, rules}
+use Rattle.prelude.proofs.Logic.{sym, ap, ◌∙◌, ◌+◌, ◌-◌, ◌*◌, ◌++◌, List, ℕ, arith, length, take, drop}
 use Rattle.lines.specs.Since.{row_since}
 use Rattle.lines.proofs.LinesLaws.{since_length}
 use Rattle.lines.proofs.Parts.{filled_put, no_room}

@@ -1,5 +1,5 @@
 -- A time on the row's date or on a day beside it: comparisons with 0h give the day and the second that division gives.
-use Rattle.prelude.proofs.Logic.{refl, pos, negsuc, rules, w64}
+use Rattle.prelude.proofs.Logic.{refl, pos, negsuc, w64}
 use Rattle.integers.proofs.Ranges.{read_back, read}
 use Rattle.lines.proofs.Moments as moments
 use Rattle.lines.proofs.times.compared.Goals as goal

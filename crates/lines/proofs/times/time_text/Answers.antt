@@ -1,5 +1,5 @@
 -- Two ends: a time near the row's date is compared, any other is divided. Both give the same text.
-use Rattle.prelude.proofs.Logic.{◌≡◌, ap, ◌∙◌, ℕ, ◌-◌, ◌*◌, ◌/◌, ◌%◌, ℤ, nat_abs, arith, lit<, rules, w64}
+use Rattle.prelude.proofs.Logic.{◌≡◌, ap, ◌∙◌, ℕ, ◌-◌, ◌*◌, ◌/◌, ◌%◌, ℤ, nat_abs, arith, lit<, w64}
 use Rattle.integers.proofs.Integers.{floor_rem, floored, read_back, read}
 use Rattle.text.specs.Text.{digit_of}
 use Rattle.lines.specs.Lines.{days_of, sign_of, time_text}

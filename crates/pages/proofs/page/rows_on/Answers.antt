@@ -1,5 +1,5 @@
 -- The order lacks the page, or has a page of it: a full one, or the last one with the rows that are left.
-use Rattle.prelude.proofs.Logic.{arith, rules}
+use Rattle.prelude.proofs.Logic.{arith}
 use Rattle.pages.proofs.PageLaws.{page-none, page-length}
 use Rattle.pages.proofs.page.rows_on.Goals as goal
 

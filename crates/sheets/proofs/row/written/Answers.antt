@@ -1,6 +1,6 @@
 -- The cases of `row_call_of` in the code's order.
 use Rattle.std.proofs.lemmas.Result.{err_from_is_err_and}
-use Rattle.prelude.proofs.Logic.{◌≡◌, refl, sym, ap, subst, ◌∙◌, [], ◌^◌, ◌<◌, arith, rules}
+use Rattle.prelude.proofs.Logic.{refl, sym, ap, subst, ◌∙◌, [], ◌^◌, ◌<◌, arith, rules}
 use Rattle.lines.specs.Lines.{columns_of, row_text}
 use Rattle.lines.proofs.LinesLaws.{columns_length}
 use Rattle.lines.proofs.SinceLaws.{row-since}

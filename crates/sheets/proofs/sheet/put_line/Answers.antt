@@ -1,5 +1,4 @@
 use Rattle.lines.specs.Since.{line_since}
-use Rattle.prelude.proofs.Logic.{rules}
 use Rattle.sheets.proofs.sheet.put_line.Goals as goal
 
 pub returns-in-Ok : goal.returns-in-Ok

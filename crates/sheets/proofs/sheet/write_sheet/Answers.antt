@@ -1,5 +1,5 @@
 -- A refused order and a read one, each by the law of every report. The town is read as a part of the order's bytes.
-use Rattle.prelude.proofs.Logic.{◌≡◌, sym, ap, ◌∙◌, lit≤, rules}
+use Rattle.prelude.proofs.Logic.{◌≡◌, sym, ap, ◌∙◌, lit≤}
 use Rattle.order.specs.Reading.{town_in, town_of}
 use Rattle.order.proofs.AcceptedLaws.{read_accepted}
 use Rattle.order.proofs.ReadingLaws.{read_town}
