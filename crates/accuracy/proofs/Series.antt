@@ -1,7 +1,7 @@
 -- The statement's sums as polynomials: the terms of the powers k, k + 2, .. n of a / d, in y = a a and w = d d. Assumes nothing.
 use Rattle.prelude.proofs.Logic.{◌≡◌, refl, ap, Bool, true, false, not, cond, List, [], ◌∷◌, ℕ, zero, suc, ◌+◌, ◌-◌, ◌*◌, ◌/◌, ◌^◌}
 use Rattle.prelude.proofs.Logic.{pow-succ', arith, length}
-use Rattle.accuracy.specs.Accuracy.{◌!}
+use Rattle.accuracy.specs.Accuracy.{◌! }
 use Rattle.accuracy.proofs.{Algebra.ring, Algebra.square_power, Forms.poly}
 
 -- ---- coefficients with their signs
