@@ -112,12 +112,21 @@ def written():
     check("two lengths, the shorter first", whole_bytes(255, [1, 2]) + whole_bytes(256, [1, 2]), b"\xff\1\0")
 
 
+def names_in(source):
+    """A choice's names by their numbers, from its enum: a case that says no number has the one after the case before it."""
+    names, number = {}, 0
+    for name, said in re.findall(r"^    (\w+)(?: = (\d+))?,$", re.search(r"^pub enum \w+ \{\n(.*?)^\}", source, re.M | re.S)[1], re.M):
+        number = int(said) if said else number
+        names[number] = name
+        number += 1
+    return names
+
+
 def tables():
     """The desk has the names and presets once more; here they are compared with the port's and the other reader's."""
     for tag, name in [(6, "method"), (7, "madhab"), (8, "high_altitude_rule"), (9, "rounding"), (10, "shafaq")]:
         with open(os.path.join(ROOT, "crates", "models", "src", name + ".rt")) as file:
-            numbers = file.read().partition("pub fn number(self)")[2].partition("of_number")[0]
-        check("names of " + name, TAGS[tag].kind.names, {int(n): known for known, n in re.findall(r"::(\w+) => (\d+),", numbers)})
+            check("names of " + name, TAGS[tag].kind.names, names_in(file.read()))
     check("as many methods", len(PRESETS), len(cases.METHODS))
     for preset, (fajr, isha, _, interval, rounding, _) in zip(PRESETS, cases.METHODS):
         names = TAGS[9].kind.names

@@ -1,9 +1,11 @@
 -- The set bits of a cell are its raised dots, and a row's cells have no other bits. Assumes nothing.
+use Rattle.std.specs.Prelude.{Err, Ok, Result}
+use Rattle.schedule.specs.declared.prayer_times.PrayerTimes.{PrayerTimes}
+use Rattle.refusals.specs.declared.Refusal.{Refusal}
 use Rattle.prelude.proofs.Logic.{◌≡◌, ap, ◌∙◌, List, [], ◌∷◌, ◌++◌, ℕ, zero, suc, ◌+◌, ◌*◌, ◌/◌, ◌%◌, ◌<◌, ◌≤◌, add-one, arith, ℤ, length}
 use Rattle.prelude.proofs.Logic.{get_or, take, replicate}
 use lib.Count.{ones, ones_step}
 use Rattle.calendar.specs.declared.dates.Date.{Date}
-use Rattle.schedule.specs.declared.prayer_times.Worked.{Worked, TheVariants.Times, TheVariants.Refused}
 use Rattle.braille.specs.Braille.{digit_cells, digit_cell, dots_in, dots_of, SixDots}
 use Rattle.braille.specs.Cells.{day_cells, time_cells, times_cells, clock_minute_of, six_of, refused_cells, row_cells}
 
@@ -96,7 +98,7 @@ unfolding SixDots times_cells
 times_six clock [] = tt
 times_six clock (time ∷ times) = six_append (time_cells clock time) (times_cells clock times) (time_six clock time) (times_six clock times)
 
-pub row_six : (date : Date) (worked : Worked) (clock : ℤ) → SixDots (row_cells date worked clock)
+pub row_six : (date : Date) (worked : Result PrayerTimes Refusal) (clock : ℤ) → SixDots (row_cells date worked clock)
 unfolding row_cells refused_cells
-row_six date (Times t) clock = six_append (day_cells date) (times_cells clock (six_of t)) (day_six date) (times_six clock (six_of t))
-row_six date (Refused r) clock = six_append (day_cells date) (replicate 36 0) (day_six date) (blanks_six 36)
+row_six date (Ok t) clock = six_append (day_cells date) (times_cells clock (six_of t)) (day_six date) (times_six clock (six_of t))
+row_six date (Err r) clock = six_append (day_cells date) (replicate 36 0) (day_six date) (blanks_six 36)

@@ -1,9 +1,11 @@
 -- The minute of the day by the clock: instant and clock may each be taken within the day before they are added. Assumes nothing.
+use Rattle.std.specs.Prelude.{Err, Ok, Result}
+use Rattle.schedule.specs.declared.prayer_times.PrayerTimes.{PrayerTimes}
+use Rattle.refusals.specs.declared.Refusal.{Refusal}
 use Rattle.prelude.proofs.Logic.{◌≡◌, refl, sym, ap, subst, ◌∙◌, ℕ, ◌+◌, ◌/◌, ◌%◌, arith, ℤ, pos, ◌+ℤ◌, ◌*ℤ◌, w32, w64, SFits}
 use Rattle.integers.proofs.Integers.{floored, range, fits, read_back, read, read_wide, sum, times, floor_quot, floor_rem}
 use Rattle.calendar.specs.{Days.day_number_of, declared.dates.Date.Date}
 use Rattle.schedule.specs.Times.{start_of, started_of, started_in}
-use Rattle.schedule.specs.declared.prayer_times.Worked.{Worked, TheVariants.Times, TheVariants.Refused}
 use Rattle.braille.specs.Cells.{clock_minute_of, time_cells, times_cells, row_cells}
 
 -- the clock in seconds, as the machine reads it
@@ -50,9 +52,9 @@ module _ (date : Date) (clock : ℤ) where
       ∙ ap (λ (r : ℕ). (r + floor_rem (clock *ℤ pos 60) 86400) / 60 % 1440) second ∙ minute_within clock t in
       simp minute
 
-  pub cells-since : (w : Worked) → row_cells date (started_in date w) clock ≡ row_cells date w clock
+  pub cells-since : (w : Result PrayerTimes Refusal) → row_cells date (started_in date w) clock ≡ row_cells date w clock
   unfolding row_cells times_cells started_in started_of
-  cells-since (Times t) =
+  cells-since (Ok t) =
       simp (
         time-since t.fajr,
         time-since t.sunrise,
@@ -61,4 +63,4 @@ module _ (date : Date) (clock : ℤ) where
         time-since t.maghrib,
         time-since t.isha,
       )
-  cells-since (Refused r) = refl
+  cells-since (Err r) = refl

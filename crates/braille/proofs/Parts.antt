@@ -1,9 +1,10 @@
 -- The cells of a row, one time after another. Assumes nothing.
+use Rattle.std.specs.Prelude.{Err, Ok, Result}
+use Rattle.refusals.specs.declared.Refusal.{Refusal}
 use Rattle.prelude.proofs.Logic.{◌≡◌, refl, sym, ap, ◌∙◌, List, [], ◌∷◌, ◌++◌, append_assoc, append-nil, ℕ, ◌+◌, ◌*◌, ◌<◌, add-one, arith}
 use Rattle.prelude.proofs.Logic.{ℤ, length, get_or, take, drop, replicate, length-append, take-suc, length-take-le}
 use Rattle.calendar.specs.declared.dates.Date.{Date}
-use Rattle.schedule.specs.declared.prayer_times.{PrayerTimes.PrayerTimes, Worked.Worked}
-use Rattle.schedule.specs.declared.prayer_times.Worked.TheVariants.{Times, Refused}
+use Rattle.schedule.specs.declared.prayer_times.{PrayerTimes.PrayerTimes}
 use Rattle.text.specs.Text.{put_of, front_of}
 use Rattle.text.proofs.TextLaws.{put_front, put_next, put_behind, put_nothing}
 use Rattle.braille.specs.Cells.{day_cells, time_cells, times_cells, six_of, refused_cells, row_cells}
@@ -21,10 +22,10 @@ unfolding times_cells
 times_length clock [] = refl
 times_length clock (time ∷ times) = simp (length-append, time_length clock time, times_length clock times) (omega arith)
 
-pub row_length_lem : (date : Date) (worked : Worked) (clock : ℤ) → length (row_cells date worked clock) ≡ 39
+pub row_length_lem : (date : Date) (worked : Result PrayerTimes Refusal) (clock : ℤ) → length (row_cells date worked clock) ≡ 39
 unfolding row_cells refused_cells
-row_length_lem date (Times t) clock = simp (length-append, day_length date, times_length clock (six_of t)) (omega arith)
-row_length_lem date (Refused r) clock = simp (length-append, day_length date) (omega arith)
+row_length_lem date (Ok t) clock = simp (length-append, day_length date, times_length clock (six_of t)) (omega arith)
+row_length_lem date (Err r) clock = simp (length-append, day_length date) (omega arith)
 
 times_append : (clock : ℤ) (xs ys : List ℤ) → times_cells clock (xs ++ ys) ≡ times_cells clock xs ++ times_cells clock ys
 unfolding times_cells
@@ -78,13 +79,13 @@ refused_done date row b = b
 
 pub row_done : (date : Date) (t : PrayerTimes) (clock : ℤ) (six : List ℤ) (i : ℕ) (day row : List ℕ) → six ≡ six_of t → i ≡ 6
     → day ≡ front_of (day_cells date) (replicate 39 0) → row ≡ put_of day 3 (times_cells clock (take i six))
-    → row ≡ row_cells date (Times t) clock
+    → row ≡ row_cells date (Ok t) clock
 unfolding row_cells
 row_done date t clock six i day row e n f b =
     let text = times_cells clock (six_of t) in
     let d = day_length date in
     let m = times_length clock (six_of t) in
-    let l : length (day_cells date ++ text) ≡ 39 = row_length_lem date (Times t) clock in
+    let l : length (day_cells date ++ text) ≡ 39 = row_length_lem date (Ok t) clock in
     b
     ∙ ap (λ (k : ℕ). put_of day 3 (times_cells clock (take k six))) n
     ∙ ap (λ (ts : List ℤ). put_of day 3 (times_cells clock (take 6 ts))) e

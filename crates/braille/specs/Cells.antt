@@ -1,11 +1,10 @@
 -- Document 02, request 2: the 39 cells of a row.
-use Rattle.std.specs.Prelude.{ℕ, ◌/◌, ◌%◌, List, [], ◌∷◌, ◌++◌, ℤ, pos, ◌+ℤ◌, ◌*ℤ◌, replicate}
+use Rattle.refusals.specs.declared.Refusal.{Refusal}
+use Rattle.std.specs.Prelude.{ℕ, ◌/◌, ◌%◌, List, [], ◌∷◌, ◌++◌, ℤ, pos, ◌+ℤ◌, ◌*ℤ◌, replicate, Err, Ok, Result}
 use Rattle.integers.specs.Quotients.{floor_quot, floor_rem}
 use Rattle.calendar.specs.Days.{minutes_in_day}
 use Rattle.calendar.specs.declared.dates.Date.{Date}
 use Rattle.schedule.specs.declared.prayer_times.PrayerTimes.{PrayerTimes}
-use Rattle.schedule.specs.declared.prayer_times.Worked.{Worked}
-use Rattle.schedule.specs.declared.prayer_times.Worked.TheVariants.{Times, Refused}
 use Rattle.braille.specs.Braille.{blank, number_sign, digit_cell}
 
 -- "A row has 39 cells"
@@ -41,6 +40,6 @@ times_cells clock (time ∷ times) = time_cells clock time ++ times_cells clock 
 unfoldable pub refused_cells : Date → List ℕ
 refused_cells date = day_cells date ++ replicate 36 blank
 
-unfoldable pub row_cells : Date → Worked → ℤ → List ℕ
-row_cells date (Times t) clock = day_cells date ++ times_cells clock (six_of t)
-row_cells date (Refused r) clock = refused_cells date
+unfoldable pub row_cells : Date → Result PrayerTimes Refusal → ℤ → List ℕ
+row_cells date (Ok t) clock = day_cells date ++ times_cells clock (six_of t)
+row_cells date (Err r) clock = refused_cells date

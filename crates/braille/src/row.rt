@@ -1,13 +1,13 @@
 // A row's cells.
-ghost use Rattle.std.specs.Prelude.{◌≡◌, ◌≤◌, length};
-ghost use Rattle.schedule.specs.declared.prayer_times.Worked.TheVariants.{Times};
+ghost use Rattle.std.specs.Prelude.{◌≡◌, ◌≤◌, length, Ok};
 ghost use Rattle.text.specs.Text.{put_of};
 ghost use Rattle.braille.specs.Braille.{dots_of, SixDots};
 ghost use Rattle.braille.specs.Cells.{six_of, refused_cells, row_cells, row_length};
 
 use super::cells::{day_cells, time_cells};
 use calendar::dates::Date;
-use schedule::prayer_times::{PrayerTimes, Worked};
+use refusals::Refusal;
+use schedule::prayer_times::PrayerTimes;
 use text::put::put;
 
 // The number sign and two digits.
@@ -34,19 +34,17 @@ fn six(times: PrayerTimes) -> [i64; 6]
 
 // The day and six times.
 fn full_row(date: Date, times: PrayerTimes, clock: i32) -> [u8; ROW_CELLS]
-    ensures { result ≡ row_cells date (Times times) clock }
+    ensures { result ≡ row_cells date (Ok times) clock }
 {
     let mut cells = [0u8; ROW_CELLS];
     put(&mut cells, 0, &day_cells(date));
     let six = six(times);
-    let mut i = 0;
-    while i < 6 {
+    for (i, time) in six.iter().enumerate() {
         put(
             &mut cells,
             DAY_CELLS + TIME_CELLS * i,
-            &time_cells(clock, six[i]),
+            &time_cells(clock, *time),
         );
-        i = i + 1;
     }
     cells
 }
@@ -60,12 +58,12 @@ fn day_alone(date: Date) -> [u8; ROW_CELLS]
     blanks
 }
 
-fn row_cells(date: Date, worked: Worked, clock: i32) -> [u8; ROW_CELLS]
+fn row_cells(date: Date, worked: Result<PrayerTimes, Refusal>, clock: i32) -> [u8; ROW_CELLS]
     ensures { result ≡ row_cells date worked clock }
 {
     match worked {
-        Worked::Times(times) => full_row(date, times, clock),
-        Worked::Refused(_) => day_alone(date),
+        Ok(times) => full_row(date, times, clock),
+        Err(_) => day_alone(date),
     }
 }
 
@@ -75,20 +73,24 @@ fn dots(cells: &[u8]) -> u32
     ensures { result ≡ dots_of cells.now }
 {
     let mut sum: u32 = 0;
-    let mut i = 0;
-    while i < cells.len() {
-        sum = sum + u32::count_ones(cells[i] as u32);
-        i = i + 1;
+    for cell in cells {
+        sum += cell.count_ones();
     }
     sum
 }
 
 // Writes the row's cells at an offset, as `put` does. Returns their dots, whether they have room or not.
-pub fn put_cells(buffer: &mut [u8], at: usize, date: Date, worked: Worked, clock: i32) -> u32
+pub fn put_cells(
+    buffer: &mut [u8],
+    at: usize,
+    date: Date,
+    worked: Result<PrayerTimes, Refusal>,
+    clock: i32,
+) -> u32
     ensures value { result ≡ dots_of (row_cells date worked clock) }
     ensures buffer_after { buffer.new ≡ put_of buffer.old at (row_cells date worked clock) }
 {
     let cells = row_cells(date, worked, clock);
-    put(&mut buffer[..], at, &cells);
+    put(buffer, at, &cells);
     dots(&cells)
 }

@@ -44,13 +44,14 @@ module _ (d : Date) (h : exists_of d ≡ true) (small : d.year ≤ 4294967295) w
     unfolding day_after_of
     over m = rw (le-ltb d.day (days_in_month_of d.year d.month) last, le-ltb d.month 12 m)
 
-    pub year-later : 12 ≤ d.month → (d.year ≡ 4294967295 → ⊥) → date_of (d.year + 1) 1 1 ≡ tomorrow_of d
+    pub year-later : 12 ≤ d.month → d.year < 4294967295 → date_of (d.year + 1) 1 1 ≡ tomorrow_of d
     year-later m n = stepped (date_of (d.year + 1) 1 1) (day_after_of d) (over m) (omega arith)
 
     -- the last date of the last year
-    pub last-of-all : 12 ≤ d.month → d.year ≡ 4294967295 → d ≡ tomorrow_of d
+    pub last-of-all : 12 ≤ d.month → 4294967295 ≤ d.year → d ≡ tomorrow_of d
     unfolding from_of held_of
-    last-of-all m y =
+    last-of-all m l =
+        let y : d.year ≡ 4294967295 = omega arith in
         let x = exists_yes d h in let t = month_of_date d x in let m12 : d.month ≡ 12 = omega arith in
         let d31 : d.day ≡ 31 = let n = length_december (leap_of d.year) in let k = ap (length_of (leap_of d.year)) m12 in omega arith in
         let e : d ≡ date_of 4294967295 12 31 = rw (← y, ← m12, ← d31) in
@@ -69,14 +70,14 @@ module _ (d : Date) (h : exists_of d ≡ true) (small : d.year ≤ 4294967295) w
         stepped (date_of d.year (d.month - 1) (days_in_month_of d.year (d.month - 1))) (day_before_of d)
         (rw (le-ltb 1 d.day first, lt-ltb 1 d.month m)) small
 
-    pub year-earlier : d.month ≤ 1 → (d.year ≡ 0 → ⊥) → date_of (d.year - 1) 12 31 ≡ yesterday_of d
+    pub year-earlier : d.month ≤ 1 → 0 < d.year → date_of (d.year - 1) 12 31 ≡ yesterday_of d
     unfolding day_before_of
     year-earlier m n =
         stepped (date_of (d.year - 1) 12 31) (day_before_of d)
         (rw (le-ltb 1 d.day first, le-ltb 1 d.month m, lt-ltb 0 d.year (omega arith))) (omega arith)
 
     -- the first date of all
-    pub first-of-all : d.month ≤ 1 → d.year ≡ 0 → d ≡ yesterday_of d
+    pub first-of-all : d.month ≤ 1 → d.year ≤ 0 → d ≡ yesterday_of d
     unfolding day_before_of
     first-of-all m n =
         stepped d (day_before_of d) (rw (le-ltb 1 d.day first, le-ltb 1 d.month m, le-ltb 0 d.year (omega arith))) small

@@ -4,11 +4,9 @@ pub mod Calendar
 pub mod CalendarLaws
 pub mod Counting
 pub mod Existing
-pub mod Floors
 pub mod Machine
 pub mod MonthTables
 pub mod Neighbours
 pub mod Promises
-pub mod Remainders
 pub mod Successors
 pub mod YearSteps

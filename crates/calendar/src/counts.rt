@@ -3,27 +3,21 @@ ghost use Rattle.std.specs.Prelude.{◌≡◌, ◌≤◌, ◌<◌};
 ghost use Rattle.calendar.specs.Counted.{since_first_of};
 ghost use Rattle.calendar.specs.Days.{days_before_year_of, year_of};
 
-// The day numbers of 0000-01-01 and of the last date of the year 4294967295, and the days from the first to the second.
+// The day numbers of 0000-01-01 and of the last date of the year 4294967295.
 const FIRST: i64 = -719528;
 
 const LAST: i64 = 1568703873081;
 
-const SPAN: u64 = 1568704592609;
-
 // The days from 0000-01-01 to `day`. A day outside FIRST to LAST counts as the nearer of the two.
+#[tactic(auto, unfolding(crate::specs::Counted::since_first_of))]
 pub fn since_first(day: i64) -> u64
     ensures { result ≡ since_first_of day }
 {
-    if day < FIRST {
-        return 0;
-    }
-    if day > LAST {
-        return SPAN;
-    }
-    (day + 719528) as u64
+    (day.clamp(FIRST, LAST) - FIRST) as u64
 }
 
 // The days before the year's January 1st.
+#[tactic(auto, unfolding(crate::specs::Days::days_before_year_of))]
 pub fn days_before_year(year: u64) -> u64
     requires { year ≤ 4294967296 }
     ensures { result ≡ days_before_year_of year }

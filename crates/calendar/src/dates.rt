@@ -20,17 +20,17 @@ pub struct Date {
 }
 
 // The date of a day of the year.
+#[tactic(auto, unfolding(crate::specs::Days::of_ordinal_of))]
 fn of_ordinal(year: u32, ordinal: u32) -> Date
     requires { (0 < ordinal) × (ordinal ≤ 366) }
     ensures { result ≡ of_ordinal_of year ordinal }
 {
     let leap = is_leap_year(year);
     let month = month_of(leap, ordinal);
-    let before = days_before(leap, month);
     Date {
-        year: year,
-        month: month,
-        day: ordinal - before,
+        year,
+        month,
+        day: ordinal - days_before(leap, month),
     }
 }
 
@@ -38,85 +38,67 @@ impl Date {
     pub fn new(year: u32, month: u32, day: u32) -> Date
         ensures { result ≡ date_of year month day }
     {
-        Date {
-            year: year,
-            month: month,
-            day: day,
-        }
+        Date { year, month, day }
     }
 
+    #[tactic(auto, unfolding(crate::specs::Gregorian::exists_of), using(crate::proofs::MonthTables::exists_up_to_28))]
     pub fn exists(self) -> bool
         ensures { result ≡ exists_of self }
     {
-        let month = self.month;
-        let day = self.day;
-        if day < 1 {
-            return false;
+        match self.day {
+            0 => false,
+            1..=SHORTEST_MONTH => (1..=12).contains(&self.month),
+            day => day <= month_days(is_leap_year(self.year), self.month),
         }
-        if day <= SHORTEST_MONTH {
-            return (1 <= month) & (month <= 12);
-        }
-        day <= month_days(is_leap_year(self.year), month)
     }
 
     // The day of the year; 0 for a date that does not exist, so callers need not check first.
     pub fn ordinal(self) -> u32
         ensures { result ≡ ordinal_of self }
     {
-        if self.exists() {
-            days_before(is_leap_year(self.year), self.month) + self.day
-        } else {
-            0
+        if !self.exists() {
+            return 0;
         }
+        days_before(is_leap_year(self.year), self.month) + self.day
     }
 
     // The next day of the month, or the first of the next month or year.
     pub fn tomorrow(self) -> Date
         ensures { result ≡ tomorrow_of self }
     {
-        let year = self.year;
-        let month = self.month;
-        let day = self.day;
+        let Date { year, month, day } = self;
         if !self.exists() {
-            return self;
+            self
+        } else if day < SHORTEST_MONTH || day < month_days(is_leap_year(year), month) {
+            Date::new(year, month, day + 1)
+        } else if month < 12 {
+            Date::new(year, month + 1, 1)
+        } else if year < u32::MAX {
+            Date::new(year + 1, 1, 1)
+        } else {
+            self
         }
-        if day < SHORTEST_MONTH {
-            return Date::new(year, month, day + 1);
-        }
-        if day < month_days(is_leap_year(year), month) {
-            return Date::new(year, month, day + 1);
-        }
-        if month < 12 {
-            return Date::new(year, month + 1, 1);
-        }
-        if year == 4294967295 {
-            return self;
-        }
-        Date::new(year + 1, 1, 1)
     }
 
     // The previous day of the month, or the last of the previous month or year.
     pub fn yesterday(self) -> Date
         ensures { result ≡ yesterday_of self }
     {
-        let year = self.year;
-        let month = self.month;
-        let day = self.day;
+        let Date { year, month, day } = self;
         if !self.exists() {
-            return self;
+            self
+        } else if day > 1 {
+            Date::new(year, month, day - 1)
+        } else if month > 1 {
+            Date::new(year, month - 1, month_days(is_leap_year(year), month - 1))
+        } else if year > 0 {
+            Date::new(year - 1, 12, 31)
+        } else {
+            self
         }
-        if day > 1 {
-            return Date::new(year, month, day - 1);
-        }
-        if month > 1 {
-            return Date::new(year, month - 1, month_days(is_leap_year(year), month - 1));
-        }
-        if year == 0 {
-            return self;
-        }
-        Date::new(year - 1, 12, 31)
     }
 
+    // The source's own signature: `next_date_of` speaks of `fwd`.
     pub fn next_date(self, fwd: bool) -> Date
         ensures { result ≡ next_date_of self fwd }
     {
@@ -148,22 +130,20 @@ impl Date {
     pub fn row(self, row: u32) -> Date
         ensures { result ≡ row_date_of self row }
     {
-        let day = self.day;
         if !self.exists() {
-            return self;
+            self
+        } else if self.day <= SHORTEST_MONTH && row <= SHORTEST_MONTH - self.day {
+            Date::new(self.year, self.month, self.day + row)
+        } else {
+            Date::of_day(self.day_number() + row as i64)
         }
-        if day <= SHORTEST_MONTH {
-            if row <= SHORTEST_MONTH - day {
-                return Date::new(self.year, self.month, day + row);
-            }
-        }
-        Date::of_day(self.day_number() + row as i64)
     }
 }
 
 // The day of the week, 0 on a Sunday.
+#[tactic(auto, unfolding(crate::specs::Days::weekday_of))]
 pub fn weekday(day: i64) -> u32
     ensures { result ≡ weekday_of day }
 {
-    ((day % 7 + 11) % 7) as u32
+    (day.rem_euclid(7) as u32 + 4) % 7
 }

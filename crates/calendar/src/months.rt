@@ -9,32 +9,30 @@ const COMMON: [u32; 12] = [0, 31, 59, 90, 120, 151, 181, 212, 243, 273, 304, 334
 const LEAP: [u32; 12] = [0, 31, 60, 91, 121, 152, 182, 213, 244, 274, 305, 335];
 
 // 0 for a month that is not from 1 to 12. Both rows are read before the choice: that takes fewer instructions than choosing a row first.
+#[tactic(auto, unfolding(crate::specs::Days::days_before_of))]
 pub fn days_before(leap: bool, month: u32) -> u32
     ensures { result ≡ days_before_of leap month }
 {
-    if month < 1 {
-        return 0;
-    }
-    if month > 12 {
+    if !(1..=12).contains(&month) {
         return 0;
     }
     let i = (month - 1) as usize;
-    let common = COMMON[i];
-    let leap_year = LEAP[i];
+    let (common, leap_year) = (COMMON[i], LEAP[i]);
     if leap { leap_year } else { common }
 }
 
 // The difference of two neighbours in the row; 0 for a month that is not from 1 to 12.
+#[tactic(auto, using(
+// December is the last month.
+crate::proofs::MonthTables::before_next, crate::proofs::MonthTables::length_past, crate::proofs::MonthTables::length_december))]
 pub fn month_days(leap: bool, month: u32) -> u32
     ensures { result ≡ length_of leap month }
 {
-    if month < 12 {
-        return days_before(leap, month + 1) - days_before(leap, month);
+    match month {
+        0..=11 => days_before(leap, month + 1) - days_before(leap, month),
+        12 => 31,
+        _ => 0,
     }
-    if month > 12 {
-        return 0;
-    }
-    31
 }
 
 // If each month had 32 days, the month would be `guess`. It is that one or the next, and the row decides.

@@ -5,21 +5,20 @@ ghost use Rattle.days.specs.Calls.{work_date_of, since_date_of, lacks_row, work_
 
 use calendar::dates::Date;
 use fields::tags;
-use order::reading::{Order, Reading, read};
+use order::reading::{Order, read};
 use refusals::{OUT_OF_RANGE, Refusal};
-use schedule::prayer_times::Worked;
+use schedule::prayer_times::PrayerTimes;
 use schedule::rolling::RowSuns;
 
 // A date by the order's setting: the first row of a run of rows.
-pub fn work_date(order: Order, date: Date) -> Worked
+pub fn work_date(order: Order, date: Date) -> Result<PrayerTimes, Refusal>
     ensures { result ≡ work_date_of order date }
 {
-    let setting = order.setting;
-    RowSuns::new(date, setting).work(setting)
+    RowSuns::new(date, order.setting).work(order.setting)
 }
 
 // The same in seconds from 0h of the date.
-pub fn since_midnight(order: Order, date: Date) -> Worked
+pub fn since_midnight(order: Order, date: Date) -> Result<PrayerTimes, Refusal>
     ensures { (result ≡ since_date_of order date) × NearIn result }
 {
     RowSuns::new(date, order.setting).since_midnight(order.setting)
@@ -33,22 +32,20 @@ pub fn lacks_row() -> Refusal
 }
 
 // Rows count from 0.
-pub fn work_row(order: Order, row: u32) -> Worked
+#[tactic(auto, unfolding(crate::specs::Calls::work_row_of))]
+pub fn work_row(order: Order, row: u32) -> Result<PrayerTimes, Refusal>
     ensures { result ≡ work_row_of order row }
 {
     if row < order.rows {
-        let first = order.date;
-        return work_date(order, first.row(row));
+        return work_date(order, order.date.row(row));
     }
-    Worked::Refused(lacks_row())
+    Err(lacks_row())
 }
 
 // The nine times of a row's date, or the refusal of the order, of the row or of the day.
-pub fn work_day(order: &[u8], row: u32) -> Worked
+#[tactic(auto, unfolding(crate::specs::Calls::work_day_of, crate::specs::Calls::work_reading_of))]
+pub fn work_day(order: &[u8], row: u32) -> Result<PrayerTimes, Refusal>
     ensures { result ≡ work_day_of order.now row }
 {
-    match read(order) {
-        Reading::Read(order) => work_row(order, row),
-        Reading::Refused(refusal) => Worked::Refused(refusal),
-    }
+    work_row(read(order)?, row)
 }

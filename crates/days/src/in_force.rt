@@ -1,32 +1,13 @@
 // The prayer in force at an instant of a row's day, the next one and the time until it. The instant is checked before anything else.
 ghost use Rattle.std.specs.Prelude.{◌≡◌};
 ghost use Rattle.refusals.specs.Refusals.{refusal, instant_beyond, none_in_force};
-ghost use Rattle.days.specs.Calls.{instant_of, instant_fits, work_at_of, prayer_at_of, next_prayer_in, next_at_of, time_until_in, remaining_at_of};
+ghost use Rattle.days.specs.Calls.{instant_fits, work_at_of, prayer_at_of, next_at_of, remaining_at_of};
 
 use super::day::work_day;
 use models::prayer::Prayer;
 use refusals::{INSTANT_BEYOND, NONE_IN_FORCE, Refusal};
-use schedule::in_force::{Current, HoursMinutes, IN_SECOND, Instant, Remaining};
-use schedule::prayer_times::{PrayerTimes, Worked};
-
-// None in force is an answer, and no refusal.
-#[derive(Clone, Copy)]
-pub enum InForce {
-    Prayer(Current),
-    Refused(Refusal),
-}
-
-#[derive(Clone, Copy)]
-pub enum NextPrayer {
-    Prayer(Prayer),
-    Refused(Refusal),
-}
-
-#[derive(Clone, Copy)]
-pub enum TimeUntil {
-    Time(HoursMinutes),
-    Refused(Refusal),
-}
+use schedule::in_force::{HoursMinutes, IN_SECOND, Instant};
+use schedule::prayer_times::PrayerTimes;
 
 // The instants that 10 does not refuse.
 const LEAST_SECONDS: i64 = -1000000000000;
@@ -35,26 +16,24 @@ const MOST_SECONDS: i64 = 1000000000000;
 
 const MOST_NANOSECONDS: u32 = IN_SECOND as u32 - 1;
 
-fn instant_fits(seconds: i64, nanoseconds: u32) -> bool
-    ensures { result ≡ instant_fits (instant_of seconds nanoseconds) }
+#[tactic(auto, unfolding(crate::specs::Calls::instant_fits))]
+fn instant_fits(instant: Instant) -> bool
+    ensures { result ≡ instant_fits instant }
 {
-    if seconds < LEAST_SECONDS {
-        return false;
-    }
-    if seconds > MOST_SECONDS {
-        return false;
-    }
-    nanoseconds <= MOST_NANOSECONDS
+    LEAST_SECONDS <= instant.seconds
+        && instant.seconds <= MOST_SECONDS
+        && instant.nanoseconds <= MOST_NANOSECONDS
 }
 
 // The times of the row's day, for an instant that is in range.
-fn work_at(order: &[u8], row: u32, instant: Instant) -> Worked
+#[tactic(auto, unfolding(crate::specs::Calls::work_at_of))]
+fn work_at(order: &[u8], row: u32, instant: Instant) -> Result<PrayerTimes, Refusal>
     ensures { result ≡ work_at_of order.now row instant }
 {
-    if instant_fits(instant.seconds, instant.nanoseconds) {
+    if instant_fits(instant) {
         return work_day(order, row);
     }
-    Worked::Refused(Refusal::new(INSTANT_BEYOND, 0))
+    Err(Refusal::new(INSTANT_BEYOND, 0))
 }
 
 // Next or remaining asked while no prayer is in force.
@@ -64,50 +43,25 @@ fn none_in_force() -> Refusal
     Refusal::new(NONE_IN_FORCE, 0)
 }
 
-pub fn prayer_at(order: &[u8], row: u32, instant: Instant) -> InForce
+#[tactic(auto, unfolding(crate::specs::Calls::prayer_at_of, crate::specs::Calls::in_force_of))]
+pub fn prayer_at(order: &[u8], row: u32, instant: Instant) -> Result<Option<Prayer>, Refusal>
     ensures { result ≡ prayer_at_of order.now row instant }
 {
-    match work_at(order, row, instant) {
-        Worked::Times(times) => {
-            let current = times.current_time(instant);
-            InForce::Prayer(current)
-        }
-        Worked::Refused(refusal) => InForce::Refused(refusal),
-    }
+    Ok(work_at(order, row, instant)?.current_time(instant))
 }
 
-fn next_in(next: Current) -> NextPrayer
-    ensures { result ≡ next_prayer_in next }
-{
-    match next {
-        Current::Some(prayer) => NextPrayer::Prayer(prayer),
-        Current::Nothing => NextPrayer::Refused(none_in_force()),
-    }
-}
-
-pub fn next_at(order: &[u8], row: u32, instant: Instant) -> NextPrayer
+#[tactic(auto, unfolding(crate::specs::Calls::next_at_of, crate::specs::Calls::next_prayer_of, crate::specs::Calls::next_prayer_in))]
+pub fn next_at(order: &[u8], row: u32, instant: Instant) -> Result<Prayer, Refusal>
     ensures { result ≡ next_at_of order.now row instant }
 {
-    match work_at(order, row, instant) {
-        Worked::Times(times) => next_in(times.next(instant)),
-        Worked::Refused(refusal) => NextPrayer::Refused(refusal),
-    }
+    let next = work_at(order, row, instant)?.next(instant);
+    next.ok_or(none_in_force())
 }
 
-fn until_in(remaining: Remaining) -> TimeUntil
-    ensures { result ≡ time_until_in remaining }
-{
-    match remaining {
-        Remaining::Some(time) => TimeUntil::Time(time),
-        Remaining::Nothing => TimeUntil::Refused(none_in_force()),
-    }
-}
-
-pub fn remaining_at(order: &[u8], row: u32, instant: Instant) -> TimeUntil
+#[tactic(auto, unfolding(crate::specs::Calls::remaining_at_of, crate::specs::Calls::time_until_of, crate::specs::Calls::time_until_in))]
+pub fn remaining_at(order: &[u8], row: u32, instant: Instant) -> Result<HoursMinutes, Refusal>
     ensures { result ≡ remaining_at_of order.now row instant }
 {
-    match work_at(order, row, instant) {
-        Worked::Times(times) => until_in(times.time_remaining(instant)),
-        Worked::Refused(refusal) => TimeUntil::Refused(refusal),
-    }
+    let remaining = work_at(order, row, instant)?.time_remaining(instant);
+    remaining.ok_or(none_in_force())
 }

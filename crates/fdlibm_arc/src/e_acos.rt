@@ -22,6 +22,7 @@ const PIO2_HI: f64 = 1.57079632679489655800e+00; // 0x3ff921fb 54442d18
 
 const PIO2_LO: f64 = 6.12323399573676603587e-17; // 0x3c91a626 33145c07
 
+#[tactic(auto, unfolding(crate::specs::Acos::acos_low_of))]
 fn acos_low(x: f64) -> f64
     ensures { result ≡ acos_low_of x }
 {
@@ -31,6 +32,7 @@ fn acos_low(x: f64) -> f64
     PI - TWO * (s + w)
 }
 
+#[tactic(auto, unfolding(crate::specs::Acos::acos_high_of))]
 fn acos_high(x: f64) -> f64
     ensures { result ≡ acos_high_of x }
 {
@@ -43,6 +45,7 @@ fn acos_high(x: f64) -> f64
 }
 
 // The arccosine of x, in radians; NaN beyond 1 in size.
+#[tactic(auto, unfolding(crate::specs::Acos::acos_of))]
 pub fn acos(x: f64) -> f64
     ensures { result ≡ acos_of x }
 {

@@ -42,6 +42,7 @@ const Q3: f64 = -6.88283971605453293030e-01; // 0xbfe6066c 1b8d0159
 const Q4: f64 = 7.70381505559019352791e-02; // 0x3fb3b8c5 b12e9282
 
 // R(t).
+#[tactic(auto, unfolding(crate::specs::Asin::ratio_of))]
 pub fn ratio(t: f64) -> f64
     ensures { result ≡ ratio_of t }
 {
@@ -50,6 +51,7 @@ pub fn ratio(t: f64) -> f64
     p / q
 }
 
+#[tactic(auto, unfolding(crate::specs::Asin::asin_large_of))]
 fn asin_large(x: f64, ix: u32) -> f64
     ensures { result ≡ asin_large_of x ix }
 {
@@ -68,6 +70,7 @@ fn asin_large(x: f64, ix: u32) -> f64
 }
 
 // The arcsine of x, in radians; NaN beyond 1 in size.
+#[tactic(auto, unfolding(crate::specs::Asin::asin_of))]
 pub fn asin(x: f64) -> f64
     ensures { result ≡ asin_of x }
 {

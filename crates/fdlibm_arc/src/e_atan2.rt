@@ -30,10 +30,11 @@ const PI_LO: f64 = 1.2246467991473531772e-16; // 0x3ca1a626 33145c07
 fn quadrant(xs: bool, ys: bool, a: f64, b: f64, c: f64, d: f64) -> f64
     ensures { result ≡ quadrant_of xs ys a b c d }
 {
-    if xs {
-        if ys { d } else { c }
-    } else {
-        if ys { b } else { a }
+    match (xs, ys) {
+        (false, false) => a,
+        (false, true) => b,
+        (true, false) => c,
+        (true, true) => d,
     }
 }
 
@@ -49,6 +50,7 @@ fn level(xs: bool, ys: bool, y: f64) -> f64
     quadrant(xs, ys, y, y, PI + TINY, -PI - TINY)
 }
 
+#[tactic(auto, unfolding(crate::specs::Atan2::infinite_of))]
 fn infinite(xs: bool, ys: bool, ix: u32, iy: u32) -> f64
     ensures { result ≡ infinite_of xs ys ix iy }
 {
@@ -71,6 +73,7 @@ fn infinite(xs: bool, ys: bool, ix: u32, iy: u32) -> f64
 }
 
 // The angle of (|x|, |y|), or 0 if it is so small that adding it to π changes nothing.
+#[tactic(auto, unfolding(crate::specs::Atan2::quotient_of))]
 fn quotient(y: f64, x: f64, xs: bool, ix: u32, iy: u32) -> f64
     ensures { result ≡ quotient_of y x xs ix iy }
 {
@@ -90,6 +93,7 @@ fn finite(xs: bool, ys: bool, z: f64) -> f64
 }
 
 // The angle of (x, y), in radians.
+#[tactic(auto, unfolding(crate::specs::Atan2::atan2_of))]
 pub fn atan2(y: f64, x: f64) -> f64
     ensures { result ≡ atan2_of y x }
 {

@@ -57,6 +57,7 @@ const A9: f64 = -3.65315727442169155270e-02; // 0xbfa2b444 2c6a6c2f
 const A10: f64 = 1.62858201153657823623e-02; // 0x3f90ad3a e322da11
 
 // x - atan x.
+#[tactic(auto, unfolding(crate::specs::Atan::atan_rest_of))]
 fn atan_rest(x: f64) -> f64
     ensures { result ≡ atan_rest_of x }
 {
@@ -74,6 +75,7 @@ fn atan_from(hi: f64, lo: f64, x: f64) -> f64
     hi - ((atan_rest(x) - lo) - x)
 }
 
+#[tactic(auto, unfolding(crate::specs::Atan::atan_large_of))]
 fn atan_large(t: f64, ix: u32) -> f64
     ensures { result ≡ atan_large_of t ix }
 {
@@ -91,6 +93,7 @@ fn atan_large(t: f64, ix: u32) -> f64
 }
 
 // The arctangent of x, in radians.
+#[tactic(auto, unfolding(crate::specs::Atan::atan_of))]
 pub fn atan(x: f64) -> f64
     ensures { result ≡ atan_of x }
 {

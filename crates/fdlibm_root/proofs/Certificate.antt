@@ -1,22 +1,7 @@
 -- The whole-number arithmetic that decides on a candidate s.
-use Rattle.prelude.proofs.Logic.{◌≡◌, refl, ap, Bool, true, false, ℕ, ◌+◌, ◌-◌, ◌*◌, ◌/◌, ◌%◌, ◌^◌, ◌≤◌, ◌<◌, div-add-mod', mul-le-mul}
-use Rattle.prelude.proofs.Logic.{arith, leb, ltb, lit≤, leb-true, leb-false, ltb-true, ltb-false, bool_byte}
+use Rattle.prelude.proofs.Logic.{◌≡◌, refl, ap, Bool, true, false, ℕ, ◌+◌, ◌-◌, ◌*◌, ◌/◌, ◌%◌, ◌^◌, ◌≤◌, ◌<◌, div-add-mod'}
+use Rattle.prelude.proofs.Logic.{arith, leb, ltb, leb-true, leb-false, ltb-true, ltb-false, bool_byte}
 use Rattle.fdlibm_root.specs.Near.{NearRoot}
-
--- ---- the products of the two halves of an s of 53 digits fit
-pub record Halves (a b : ℕ) : Type 0 where
-  pub high : a * a < 2 ^ 52
-  pub mixed : a * b < 2 ^ 53
-  pub low : b * b < 2 ^ 54
-
-pub halves : (s : ℕ) → s < 2 ^ 53 → Halves (s / 2 ^ 27) (s % 2 ^ 27)
-halves s h = products (s / 2 ^ 27) (s % 2 ^ 27) (omega arith) (omega arith)
-  where
-    products : (a b : ℕ) → a ≤ 67108863 → b ≤ 134217727 → Halves a b
-    products a b p q =
-        let aa : a * a ≤ 67108863 * 67108863 = mul-le-mul p p in let ab : a * b ≤ 67108863 * 134217727 = mul-le-mul p q in
-        let bb : b * b ≤ 134217727 * 134217727 = mul-le-mul q q in
-        record { high = omega arith; mixed = omega arith; low = omega arith }
 
 -- ---- what `residue` returns: `over` is e * 2 ^ 25 + 2 ^ 28 and `under` is 2 * a * b + k, where b * b is k * 2 ^ 27 + l
 sum : (m s a b e j k l z : ℕ) → a * 2 ^ 27 + b ≡ s → 4 * a * a + e ≡ m → k * 2 ^ 27 + l ≡ b * b → j + (2 * a * b + k) ≡ e * 2 ^ 25 + 2 ^ 28
@@ -26,38 +11,25 @@ sum m s a b e j k l z parts top low middle is =
     let square : (a * 2 ^ 27 + b) * (a * 2 ^ 27 + b) ≡ s * s = ap (λ (x : ℕ). x * x) parts in
     omega arith
 
-module _ (m s : ℕ) where
-  pub residue-is :
-      let a = s / 2 ^ 27 in let b = s % 2 ^ 27 in let over = (m - 4 * a * a) * 2 ^ 25 + 2 ^ 28 in
-      let under = 2 * a * b + b * b / 2 ^ 27 in
-      4 * a * a ≤ m → under < over → (over - under) * 2 ^ 27 - b * b % 2 ^ 27 + s * s ≡ 2 ^ 55 + m * 2 ^ 52
-  residue-is top less =
-      let a = s / 2 ^ 27 in let b = s % 2 ^ 27 in let over = (m - 4 * a * a) * 2 ^ 25 + 2 ^ 28 in
-      let under = 2 * a * b + b * b / 2 ^ 27 in let j = over - under in
-      sum m s a b (m - 4 * a * a) j (b * b / 2 ^ 27) (b * b % 2 ^ 27) (j * 2 ^ 27 - b * b % 2 ^ 27)
-      (div-add-mod' s (2 ^ 27)) (omega arith) (div-add-mod' (b * b) (2 ^ 27)) (back under over less) (rest j (b * b) (some under over less))
-    where
-      back : (u o : ℕ) → u < o → o - u + u ≡ o
-      back u o h = omega arith
+pub residue-is : (m s e : ℕ) → let a = s / 2 ^ 27 in let b = s % 2 ^ 27 in let over = e * 2 ^ 25 + 2 ^ 28 in
+    let under = 2 * a * b + b * b / 2 ^ 27 in
+    4 * a * a ≤ m → e ≡ m - 4 * a * a → under < over → (over - under) * 2 ^ 27 - b * b % 2 ^ 27 + s * s ≡ 2 ^ 55 + m * 2 ^ 52
+residue-is m s e top is less =
+    let a = s / 2 ^ 27 in let b = s % 2 ^ 27 in let over = e * 2 ^ 25 + 2 ^ 28 in
+    let under = 2 * a * b + b * b / 2 ^ 27 in let j = over - under in
+    sum m s a b e j (b * b / 2 ^ 27) (b * b % 2 ^ 27) (j * 2 ^ 27 - b * b % 2 ^ 27)
+    (div-add-mod' s (2 ^ 27)) (omega arith) (div-add-mod' (b * b) (2 ^ 27)) (back under over less) (rest j (b * b) (some under over less))
+  where
+    back : (u o : ℕ) → u < o → o - u + u ≡ o
+    back u o h = omega arith
 
-      some : (u o : ℕ) → u < o → 0 < o - u
-      some u o h = omega arith
+    some : (u o : ℕ) → u < o → 0 < o - u
+    some u o h = omega arith
 
-      rest : (j c : ℕ) → 0 < j → j * 2 ^ 27 - c % 2 ^ 27 + c % 2 ^ 27 ≡ j * 2 ^ 27
-      rest j c h = omega arith
+    rest : (j c : ℕ) → 0 < j → j * 2 ^ 27 - c % 2 ^ 27 + c % 2 ^ 27 ≡ j * 2 ^ 27
+    rest j c h = omega arith
 
 -- ---- s or a neighbour is the nearest, by the size of the residue z
-bit : (b : Bool) → bool_byte b ≤ 1
-bit true = lit≤ tt
-bit false = lit≤ tt
-
-pub up_fits : (s z : ℕ) → s < 2 ^ 53 → s + bool_byte (ltb (2 ^ 55 + s) z) < 2 ^ 64
-up_fits s z h = omega (arith, bit (ltb (2 ^ 55 + s) z))
-
-pub down_fits : (s z : ℕ) → 2 ^ 55 + 2 < z + 3 * s → z ≤ 2 ^ 55 + 3 * s + 2
-    → bool_byte (leb (z + s) (2 ^ 55)) ≤ s + bool_byte (ltb (2 ^ 55 + s) z)
-down_fits s z lo hi = omega (arith, bit (leb (z + s) (2 ^ 55)))
-
 module _ (m s z : ℕ) (is : z + s * s ≡ 2 ^ 55 + m * 2 ^ 52) (lo : 2 ^ 55 + 2 < z + 3 * s) (hi : z ≤ 2 ^ 55 + 3 * s + 2) where
   below : (t : ℕ) → t + 1 ≡ s → z + s ≤ 2 ^ 55 → NearRoot m t
   below t less far =

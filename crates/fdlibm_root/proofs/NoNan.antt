@@ -1,7 +1,7 @@
 -- When a float is no NaN, and when a pattern is no NaN's: `f64::to_bits` and `f64::from_bits` require this.
-use Rattle.prelude.proofs.Logic.{◌≡◌, sym, ◌∙◌, subst, Bool, true, not, false≢true, ℕ, ◌%◌, ◌^◌, ◌<◌, le_of_lt, lt_trans, mod-eq_of_lt, T}
+use Rattle.prelude.proofs.Logic.{◌≡◌, sym, ◌∙◌, subst, Bool, not, false≢true, ℕ, ◌%◌, ◌^◌, ◌<◌, le_of_lt, lt_trans, mod-eq_of_lt, T}
 use Rattle.prelude.proofs.Logic.{lit<, le-ltb}
-use Rattle.prelude.proofs.Ieee.{Float, nan, inf, fin, binary64, is_nan, lt, eq, nan_bits, nan_bits_above}
+use Rattle.prelude.proofs.Ieee.{Float, nan, inf, fin, binary64, is_nan, lt, nan_bits, nan_bits_above}
 use Rattle.fdlibm_root.proofs.Patterns.{Above}
 
 pub no_nan : (x : Float) → Above x → T (not (is_nan x))
@@ -9,13 +9,6 @@ unfolding lt is_nan
 no_nan nan h = absurd (false≢true h)
 no_nan (inf s) h = tt
 no_nan (fin s m e) h = tt
-
--- a NaN does not equal itself
-pub self_equal : (x : Float) → eq x x ≡ true → T (not (is_nan x))
-unfolding eq is_nan
-self_equal nan h = absurd (false≢true h)
-self_equal (inf s) h = tt
-self_equal (fin s m e) h = tt
 
 -- a pattern below the infinity's is no NaN's
 pub no_nan_bits : (n : ℕ) → n < 0x7ff0_0000_0000_0000 → T (not (nan_bits binary64 n))

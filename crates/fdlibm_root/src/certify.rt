@@ -1,6 +1,6 @@
 // A candidate for the whole number nearest to the root of m * 2^52, computed with floats. Whole-number arithmetic then decides whether it
 // is right.
-ghost use Rattle.std.specs.Prelude.{◌≡◌, ◌+◌, ◌*◌, ◌^◌, ◌<◌};
+ghost use Rattle.std.specs.Prelude.{◌≡◌, ◌+◌, ◌*◌, ◌^◌, ◌<◌, IfSome};
 ghost use Rattle.fdlibm_root.specs.Near.{NearRoot};
 
 // 1 / sqrt(f) is within 4 % of the float whose pattern is GUESS less half of f's pattern
@@ -26,46 +26,41 @@ pub fn estimate(pattern: u64) -> u64
     let g1 = g + g * e * p;
     let e1 = 1.0 - g1 * (y + y * e * p);
     let r = g1 + g1 * e1 * (0.5 + e1 * 0.375 + e1 * e1 * 0.3125);
-    if r == r {
-        f64::to_bits(r) % LEADING + LEADING
-    } else {
-        0
-    }
+    std::num::f64_to_bits_with_nan(r) % LEADING + LEADING
 }
 
-// OFFSET + m * 2^52 - s * s, or 0 if the tests do not show that it is near OFFSET and that no sum or product overflows.
+// OFFSET + m * 2^52 - s * s, or none if the tests do not show that it is near OFFSET and that no sum or product overflows.
 // With s = a * 2^27 + b the difference is e * 2^52 - 2 * a * b * 2^27 - b * b, where e = m - 4 * a * a.
 // `over` and `under` count the multiples of 2^27 in OFFSET and e * 2^52, and in the rest.
-fn residue(m: u64, s: u64) -> u64
+fn residue(m: u64, s: u64) -> Option<u64>
     requires { (m < 2 ^ 54) × (s < 2 ^ 53) }
-    ensures { (result < 2 ^ 57) × (0 < result → result + s * s ≡ 2 ^ 55 + m * 2 ^ 52) }
+    ensures { IfSome result (λ z. (z < 2 ^ 57) × (z + s * s ≡ 2 ^ 55 + m * 2 ^ 52)) }
 {
     let a = s / 0x800_0000;
     let b = s % 0x800_0000;
-    let top = 4 * a * a;
     let under = 2 * a * b + b * b / 0x800_0000;
-    if top <= m {
-        let e = m - top;
-        if e < under / 0x200_0000 + 8 {
-            let over = e * 0x200_0000 + 0x1000_0000;
-            if under < over {
-                return (over - under) * 0x800_0000 - b * b % 0x800_0000;
-            }
-        }
+    let e = m.checked_sub(4 * a * a)?;
+    if e >= under / 0x200_0000 + 8 {
+        return None;
     }
-    0
+    let over = e * 0x200_0000 + 0x1000_0000;
+    if under < over {
+        Some((over - under) * 0x800_0000 - b * b % 0x800_0000)
+    } else {
+        None
+    }
 }
 
-// The whole number nearest to the root of m * 2^52 if that is s or a neighbour of s, else 0. For example, it is s + 1 if
+// The whole number nearest to the root of m * 2^52 if that is s or a neighbour of s. For example, it is s + 1 if
 // m * 2^52 - s * s is above s and at most 3 * s + 2: then m * 2^52 is above s * (s + 1) and at most (s + 1) * (s + 2).
-pub fn corrected(m: u64, s: u64) -> u64
+pub fn corrected(m: u64, s: u64) -> Option<u64>
     requires { (m < 2 ^ 54) × (s < 2 ^ 53) }
-    ensures { 0 < result → NearRoot m result }
+    ensures { IfSome result (NearRoot m) }
 {
-    let z = residue(m, s);
+    let z = residue(m, s)?;
     if z + 3 * s > OFFSET + 2 && z <= OFFSET + 3 * s + 2 {
-        s + (z > OFFSET + s) as u64 - (z + s <= OFFSET) as u64
+        Some(s + (z > OFFSET + s) as u64 - (z + s <= OFFSET) as u64)
     } else {
-        0
+        None
     }
 }

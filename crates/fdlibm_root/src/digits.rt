@@ -12,8 +12,7 @@ fn root(m: u64) -> u64
     let mut q: u64 = 0;
     let mut left: u64 = 0;
     let mut rest: u64 = m;
-    let mut i: u64 = 0;
-    while i < 54 {
+    for _ in 0..54u32 {
         let p = left * 4 + rest / 0x10_0000_0000_0000;
         rest = rest % 0x10_0000_0000_0000 * 4;
         if q * 4 + 1 <= p {
@@ -23,7 +22,6 @@ fn root(m: u64) -> u64
             left = p;
             q = q * 2;
         }
-        i += 1;
     }
     q
 }

@@ -28,8 +28,7 @@ fn nearest(significand: u64, odd: u64) -> u64
     ensures { NearRoot (significand * (1 + odd)) result }
 {
     let m = significand * (1 + odd);
-    let s = corrected(m, estimate(significand + (odd + 1022) * LEADING));
-    if s == 0 { by_digits(m) } else { s }
+    corrected(m, estimate(significand + (odd + 1022) * LEADING)).unwrap_or_else(|| by_digits(m))
 }
 
 // The pattern of the root of significand * 2^(exponent - 2098). The leading digit of the root's significand adds one to the exponent's
@@ -46,13 +45,8 @@ fn subnormal_pattern(t: u64) -> u64
     requires { (0 < t) × (t < 2 ^ 52) }
     ensures { (of_bits binary64 result ≡ rounded_root (t * 2 ^ 126)) × (result < 0x7ff0_0000_0000_0000) }
 {
-    let mut significand = t;
-    let mut places: u64 = 0;
-    while significand < LEADING {
-        significand = significand * 2;
-        places += 1;
-    }
-    root_pattern(significand, 1024 - places)
+    let places = t.leading_zeros() - 11;
+    root_pattern(t << places, 1024 - places as u64)
 }
 
 pub fn sqrt(x: f64) -> f64
@@ -70,6 +64,6 @@ pub fn sqrt(x: f64) -> f64
     } else if x == 0.0 {
         x
     } else {
-        0.0 / 0.0
+        f64::NAN
     }
 }

@@ -2,8 +2,11 @@
 // π/2 is held in three parts of 33 bits with their tails. For most x it is enough to subtract the first.
 // Near a multiple of π/2 bits cancel, and one or two further turns subtract the next parts.
 // fdlibm's medium case goes on to 2^19 π/2. Its large case is not here: sin, cos and tan need no x beyond 70.
-ghost use Rattle.std.specs.Prelude.{◌≡◌, ◌<◌};
+ghost use Rattle.std.specs.Prelude.{◌≡◌, ◌<◌, true, false, MatchOption};
+ghost use Rattle.std.specs.Float.Ieee.{le};
+ghost use Rattle.float64.specs.Sizes.{abs_of};
 ghost use Rattle.fdlibm_trig.specs.RemPio2.{npio2_of, exponent_of, less_of, more_of, iteration_of, refine_of, difference_of, medium_of};
+ghost use Rattle.fdlibm_trig.specs.Trig.{seventy};
 ghost use Rattle.fdlibm_trig.specs.RemPio2.{opposite_of, near_of, near_negative_of, rem_pio2_of};
 
 use float64::casts::to_u32;
@@ -26,6 +29,8 @@ const PIO2_2T: f64 = 2.02226624879595063154e-21; // 0x3ba3198a 2e037073
 const PIO2_3: f64 = 2.02226624871116645580e-21; // 0x3ba3198a 2e000000
 
 const PIO2_3T: f64 = 8.47842766036889956997e-32; // 0x397b839a 252049c1
+
+const SEVENTY: f64 = 70.0;
 
 // A difference or a sum that is still in two parts.
 #[derive(Clone, Copy)]
@@ -68,8 +73,8 @@ fn less(n: u32, p: Parts) -> Reduced
 {
     let y0 = p.r - p.w;
     Reduced {
-        n: n,
-        y0: y0,
+        n,
+        y0,
         y1: (p.r - y0) - p.w,
     }
 }
@@ -79,8 +84,8 @@ fn more(n: u32, p: Parts) -> Reduced
 {
     let y0 = p.r + p.w;
     Reduced {
-        n: n,
-        y0: y0,
+        n,
+        y0,
         y1: (p.r - y0) + p.w,
     }
 }
@@ -92,12 +97,13 @@ fn turn(t: f64, k: f64, a: f64, b: f64) -> Parts
     let w = k * a;
     let r = t - w;
     Parts {
-        r: r,
+        r,
         w: k * b - ((t - r) - w),
     }
 }
 
 // t less k * π/2. The number of cancelled bits decides how many turns are taken.
+#[tactic(auto, unfolding(crate::specs::RemPio2::refine_of))]
 fn refine(k: f64, j: u32, t: f64) -> Parts
     ensures { result ≡ refine_of k j t }
 {
@@ -111,11 +117,12 @@ fn refine(k: f64, j: u32, t: f64) -> Parts
             p
         }
     } else {
-        Parts { r: r, w: w }
+        Parts { r, w }
     }
 }
 
 // t less n * π/2. Further turns are considered for n from 32 on, and for smaller n only if t is near n * π/2.
+#[tactic(auto, unfolding(crate::specs::RemPio2::difference_of))]
 fn difference(t: f64, ix: u32, n: u32) -> Parts
     ensures { result ≡ difference_of t ix n }
 {
@@ -151,6 +158,7 @@ fn turned(p: Reduced) -> Reduced
     }
 }
 
+#[tactic(auto, unfolding(crate::specs::RemPio2::near_of))]
 fn near(x: f64, ix: u32) -> Parts
     ensures { result ≡ near_of x ix }
 {
@@ -167,6 +175,7 @@ fn near(x: f64, ix: u32) -> Parts
     }
 }
 
+#[tactic(auto, unfolding(crate::specs::RemPio2::near_negative_of))]
 fn near_negative(x: f64, ix: u32) -> Parts
     ensures { result ≡ near_negative_of x ix }
 {
@@ -184,6 +193,7 @@ fn near_negative(x: f64, ix: u32) -> Parts
 }
 
 // x less the nearest multiple of π/2.
+#[tactic(auto, unfolding(crate::specs::RemPio2::rem_pio2_of))]
 pub fn rem_pio2(x: f64) -> Reduced
     ensures { result ≡ rem_pio2_of x }
 {
@@ -205,5 +215,18 @@ pub fn rem_pio2(x: f64) -> Reduced
         turned(medium(-x, ix))
     } else {
         medium(x, ix)
+    }
+}
+
+// The same, or none beyond 70 in size (added). It is inlined: through memory the parts of the result cost a third of a sine more.
+#[inline(always)]
+#[tactic(auto, using(crate::proofs::Signs::within_seventy))]
+pub(crate) fn rem_within(x: f64) -> Option<Reduced>
+    ensures { MatchOption result (le (abs_of x) seventy ≡ false) (λ p. (le (abs_of x) seventy ≡ true) × (p ≡ rem_pio2_of x)) }
+{
+    if (-SEVENTY <= x) & (x <= SEVENTY) {
+        Some(rem_pio2(x))
+    } else {
+        None
     }
 }

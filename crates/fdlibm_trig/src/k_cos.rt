@@ -40,6 +40,7 @@ fn quarter(ix: u32) -> f64
 }
 
 // The cosine of x + y for an x that is not tiny, from z = x^2 and the high word of |x|.
+#[tactic(auto, unfolding(crate::specs::KCos::kernel_cos_of))]
 pub(crate) fn cos_polynomial(x: f64, y: f64, z: f64, ix: u32) -> f64
     requires { (0x3e40_0000 ≤ high_of x) × (z ≡ x *ᶠ x) × (ix ≡ high_of x) }
     ensures { result ≡ kernel_cos_of x y }

@@ -23,6 +23,7 @@ const S5: f64 = -2.50507602534068634195e-08; // 0xbe5ae5e6 8a2b9ceb
 const S6: f64 = 1.58969099521155010221e-10; // 0x3de5d93a 5acfd57c
 
 // The sine of x + y for an x that is not tiny, from z = x^2. `tail` says whether y counts, as fdlibm's iy does.
+#[tactic(auto, unfolding(crate::specs::KSin::kernel_sin_of))]
 pub(crate) fn sin_polynomial(x: f64, y: f64, z: f64, tail: bool) -> f64
     requires { (0x3e40_0000 ≤ high_of x) × (z ≡ x *ᶠ x) }
     ensures { result ≡ kernel_sin_of x y tail }

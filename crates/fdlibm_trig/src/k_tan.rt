@@ -48,6 +48,7 @@ const T11: f64 = -1.85586374855275456654e-05; // 0xbef375cb db605373
 const T12: f64 = 2.59073051863633712884e-05; // 0x3efb2a70 74bf7ad4
 
 // -1 / w for w = x + r, with the error of the division corrected.
+#[tactic(auto, unfolding(crate::specs::KTan::reciprocal_of))]
 fn reciprocal(w: f64, x: f64, r: f64) -> f64
     ensures { result ≡ reciprocal_of w x r }
 {
@@ -60,6 +61,7 @@ fn reciprocal(w: f64, x: f64, r: f64) -> f64
 }
 
 // tan (x + y) - x.
+#[tactic(auto, unfolding(crate::specs::KTan::tan_rest_of))]
 fn tan_rest(x: f64, y: f64) -> f64
     ensures { result ≡ tan_rest_of x y }
 {
@@ -71,6 +73,7 @@ fn tan_rest(x: f64, y: f64) -> f64
     (y + z * (s * (r + v) + y)) + T0 * s
 }
 
+#[tactic(auto, unfolding(crate::specs::KTan::tan_small_of))]
 fn tan_small(x: f64, y: f64, odd: bool) -> f64
     ensures { result ≡ tan_small_of x y odd }
 {
@@ -85,6 +88,7 @@ fn tan_small(x: f64, y: f64, odd: bool) -> f64
     }
 }
 
+#[tactic(auto, unfolding(crate::specs::KTan::tan_middle_of))]
 fn tan_middle(x: f64, y: f64, odd: bool) -> f64
     ensures { result ≡ tan_middle_of x y odd }
 {
@@ -92,6 +96,7 @@ fn tan_middle(x: f64, y: f64, odd: bool) -> f64
     if odd { reciprocal(x + r, x, r) } else { x + r }
 }
 
+#[tactic(auto, unfolding(crate::specs::KTan::tan_large_of))]
 fn tan_large(x: f64, y: f64, v: f64) -> f64
     ensures { result ≡ tan_large_of x y v }
 {
@@ -109,6 +114,7 @@ fn side(odd: bool) -> f64
 }
 
 // The tangent of x + y, or -1 / tan if `odd`.
+#[tactic(auto, unfolding(crate::specs::KTan::kernel_tan_of))]
 pub fn kernel_tan(x: f64, y: f64, odd: bool) -> f64
     ensures { result ≡ kernel_tan_of x y odd }
 {

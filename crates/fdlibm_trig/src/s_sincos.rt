@@ -3,7 +3,7 @@ ghost use Rattle.std.specs.Prelude.{◌≡◌, ◌<◌};
 ghost use Rattle.fdlibm_trig.specs.Steps.{kernels_of, both_turns_of};
 ghost use Rattle.fdlibm_trig.specs.Trig.{sincos_of};
 
-use super::e_rem_pio2::rem_pio2;
+use super::e_rem_pio2::rem_within;
 use super::k_cos::cos_polynomial;
 use super::k_sin::sin_polynomial;
 use float64::words::{high_word, not_a_number};
@@ -11,8 +11,6 @@ use float64::words::{high_word, not_a_number};
 const ZERO: f64 = 0.0;
 
 const ONE: f64 = 1.0;
-
-const SEVENTY: f64 = 70.0;
 
 #[derive(Clone, Copy)]
 pub struct Both {
@@ -37,49 +35,42 @@ fn kernels(x: f64, y: f64, tail: bool) -> Both
 }
 
 // Sine and cosine of n quarter turns and y0 + y1.
+#[tactic(auto, unfolding(crate::specs::Trig::quarter_turns_of))]
 fn both_turns(n: u32, y0: f64, y1: f64) -> Both
     requires { n < 4 }
     ensures { result ≡ both_turns_of n y0 y1 }
 {
-    let k = kernels(y0, y1, true);
-    let sine = k.sin;
-    let cosine = k.cos;
-    if n == 0 {
-        Both {
-            sin: sine,
-            cos: cosine,
-        }
-    } else if n == 1 {
-        Both {
-            sin: cosine,
-            cos: -sine,
-        }
-    } else if n == 2 {
-        Both {
-            sin: -sine,
-            cos: -cosine,
-        }
-    } else {
-        Both {
-            sin: -cosine,
-            cos: sine,
-        }
+    let Both { sin, cos } = kernels(y0, y1, true);
+    match n {
+        0 => Both { sin, cos },
+        1 => Both {
+            sin: cos,
+            cos: -sin,
+        },
+        2 => Both {
+            sin: -sin,
+            cos: -cos,
+        },
+        _ => Both {
+            sin: -cos,
+            cos: sin,
+        },
     }
 }
 
 // Sine and cosine of x radians; NaN beyond 70 in size.
+#[tactic(auto, using(crate::proofs::Quarters::quarters), unfolding(crate::specs::Trig::sin_of, crate::specs::Trig::cos_of))]
 pub fn sincos(x: f64) -> Both
     ensures { result ≡ sincos_of x }
 {
     if high_word(x) <= 0x3fe9_21fb {
-        kernels(x, ZERO, false)
-    } else if (-SEVENTY <= x) & (x <= SEVENTY) {
-        let p = rem_pio2(x);
-        both_turns(p.n, p.y0, p.y1)
-    } else {
-        Both {
+        return kernels(x, ZERO, false);
+    }
+    match rem_within(x) {
+        Some(p) => both_turns(p.n, p.y0, p.y1),
+        None => Both {
             sin: not_a_number(),
             cos: not_a_number(),
-        }
+        },
     }
 }

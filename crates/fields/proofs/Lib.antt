@@ -1,6 +1,5 @@
 pub mod Joining
 pub mod Walking
-pub mod Parts
 pub mod FieldsLaws
 pub mod Collecting
 pub mod LookupLaws

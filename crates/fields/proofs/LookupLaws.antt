@@ -8,7 +8,7 @@ use Rattle.fields.specs.declared.{values.Fields.Fields, values.Part.Part}
 use Rattle.fields.specs.Numbers.{byte_of}
 use Rattle.fields.specs.Tags.{tags, length_fits}
 use Rattle.fields.specs.Fields.{length_at, next_field_at, walk_of, check_of}
-use Rattle.fields.specs.Values.{no_fields, put_of, collect_of, fields_of, part_for, values_in, has_of, value_of}
+use Rattle.fields.specs.Values.{part_of, no_part, no_fields, put_of, collect_of, fields_of, part_for, has_in, values_in, has_of, value_of}
 use Rattle.fields.specs.Lookup.{first_from, offset_of, FirstField, FirstFieldIsCollected}
 use Rattle.fields.proofs.FieldsLaws.{Good, fault_none, good_row, walk_good, check_none}
 use Rattle.fields.proofs.Collecting.{seen_in, seen_set, seen_collected}
@@ -31,18 +31,15 @@ find_none zero s tag at h = refl
 find_none (suc k) s tag at h = simp (le-ltb _ _ h)
 
 -- ---- what the walk from an offset on collects under a tag
-abbrev part : ℕ → ℕ → Part
-part at length = record { at = at; length = length }
-
 -- no field has the tag, and its part stays; or a field has it, and there was no part before
 data Under (s : List ℕ) (tag found : ℕ) (before after : Part) : Type 0 where
   stays : found ≡ length s → after ≡ before → Under s tag found before after
-  comes : found < length s → byte_of s found ≡ tag → Good s found → before.at ≡ 0 → after ≡ part (found + 3) (length_at s found)
+  comes : found < length s → byte_of s found ≡ tag → Good s found → before.at ≡ 0 → after ≡ part_of (found + 3) (length_at s found)
       → Under s tag found before after
 
 -- the field at an offset has the tag, so no later field has it
 first_comes : (s : List ℕ) (tag at later : ℕ) (before own after : Part) → at < length s → byte_of s at ≡ tag → Good s at → before.at ≡ 0
-    → own ≡ part (at + 3) (length_at s at) → Under s tag later own after → Under s tag at before after
+    → own ≡ part_of (at + 3) (length_at s at) → Under s tag later own after → Under s tag at before after
 first_comes s tag at later before own after l e g unset is (stays found same) = comes l e g unset (same ∙ is)
 first_comes s tag at later before own after l e g unset is (comes found named good again same) =
     let none : at + 3 ≡ 0 = ap (λ (p : Part). p.at) (sym is) ∙ again in absurd (omega arith)
@@ -58,50 +55,46 @@ module _ (s : List ℕ) (tag k at : ℕ) (fields : Fields) (l : at < length s) (
   abbrev Here : Type 0
   Here = Under s tag (first_from (suc k) s tag at) (part_for fields tag) (part_for (collect_of (suc k) s fields at) tag)
 
-  has-tag : byte_of s at ≡ tag → Good s at → ltb 0 (get_or fields.at (byte_of s at) 0) ≡ false → length fields.at ≡ length tags
-      → length fields.length ≡ length tags → Rest → Here
-  has-tag e g new starts lengths rest =
+  has-tag : byte_of s at ≡ tag → Good s at → has_in fields (byte_of s at) ≡ false → length fields.parts ≡ length tags → Rest → Here
+  has-tag e g new size rest =
       let row = good_row s at g in
-      let unset = ltb-false 0 (get_or fields.at (byte_of s at) 0) new in
-      let a = get_or-set_same fields.at (byte_of s at) (at + 3) 0 (omega arith) in
-      let n = get_or-set_same fields.length (byte_of s at) (length_at s at) 0 (omega arith) in
-      let is : part_for put (byte_of s at) ≡ part (at + 3) (length_at s at) = λ i. record { at = a i; length = n i } in
+      let unset = ltb-false 0 (part_for fields (byte_of s at)).at new in
+      let is = get_or-set_same fields.parts (byte_of s at) (part_of (at + 3) (length_at s at)) no_part (omega arith) in
       rw (find_here (suc k) s tag at enough l e, collect-on s at k fields l)
       (first_comes s tag at _ (part_for fields tag) (part_for put tag) _ l e g (rw (← e) (omega arith)) (rw (← e) is) rest)
 
   has_other : (byte_of s at ≡ tag → ⊥) → Rest → Here
   has_other differ rest =
-      let other : (kept : List ℕ) (x : ℕ) → get_or (set kept (byte_of s at) x) tag 0 ≡ get_or kept tag 0 =
-      λ kept x. get_or-set_other kept (byte_of s at) tag x 0 (λ e. differ (sym e)) in
-      rw (find_on k s tag at l differ, collect-on s at k fields l)
-      (rw (other fields.at (at + 3), other fields.length (length_at s at)) at rest)
+      let own = part_of (at + 3) (length_at s at) in
+      let other = get_or-set_other fields.parts (byte_of s at) tag own no_part (λ e. differ (sym e)) in
+      rw (find_on k s tag at l differ, collect-on s at k fields l) (rw other at rest)
 
-under : (k : ℕ) (s : List ℕ) (tag at : ℕ) (fields : Fields) → length s ≤ at + k → length fields.at ≡ length tags
-    → length fields.length ≡ length tags → (walk_of k s (seen_in fields.at) at).number ≡ 0
+under : (k : ℕ) (s : List ℕ) (tag at : ℕ) (fields : Fields) → length s ≤ at + k → length fields.parts ≡ length tags
+    → (walk_of k s (seen_in fields.parts) at).number ≡ 0
     → Under s tag (first_from k s tag at) (part_for fields tag) (part_for (collect_of k s fields at) tag)
-under zero s tag at fields enough starts lengths e =
+under zero s tag at fields enough size e =
     rw (find_none zero s tag at (omega arith), collect-end s at zero fields (omega arith)) (stays refl refl)
-under (suc k) s tag at fields enough starts lengths e =
+under (suc k) s tag at fields enough size e =
     cases (ltb at (length s))
     (λ h. let l = ltb-true at (length s) h in
-    let w = walk_good k s (seen_in fields.at) at l e in
-    let f = fault_none s (seen_in fields.at) at w.0 in
+    let w = walk_good k s (seen_in fields.parts) at l e in
+    let f = fault_none s (seen_in fields.parts) at w.0 in
     let own = byte_of s at in
+    let its = part_of (at + 3) (length_at s at) in
     let rest : Rest s tag k at fields l enough =
     under k s tag (next_field_at s at) (put_of fields own (at + 3) (length_at s at)) (omega arith)
-    (length-set fields.at own (at + 3) ∙ starts)
-    (length-set fields.length own (length_at s at) ∙ lengths) (rw (seen_set fields.at own (at + 3) (omega arith)) w.1) in
+    (length-set fields.parts own its ∙ size) (rw (seen_set fields.parts own its (omega arith)) w.1) in
     cases (eqb own tag)
-    (λ t. has-tag s tag k at fields l enough (eqb-true own tag t) f.0 (seen_collected fields.at own ∙ f.1) starts lengths rest)
+    (λ t. has-tag s tag k at fields l enough (eqb-true own tag t) f.0 (seen_collected fields own ∙ f.1) size rest)
     (λ t. has_other s tag k at fields l enough (eqb-false own tag t) rest))
     (λ h. let end = ltb-false at (length s) h in
     rw (find_none (suc k) s tag at end, collect-end s at (suc k) fields end) (stays refl refl))
 
 -- ---- for an order whose form is right
-none_at : (tag : ℕ) → ◌≡◌ {A = ℕ} (get_or (replicate (length tags) 0) tag 0) 0
+none_at : (tag : ℕ) → part_for no_fields tag ≡ no_part
 none_at tag =
-    cases (ltb tag (length tags)) (λ e. get_or-replicate (length tags) tag 0 0 (ltb-true tag (length tags) e))
-    (λ e. List·getD-eq-default (replicate (length tags) 0) 0 (ltb-false tag (length tags) e))
+    cases (ltb tag (length tags)) (λ e. get_or-replicate (length tags) tag no_part no_part (ltb-true tag (length tags) e))
+    (λ e. List·getD-eq-default no_fields.parts no_part (ltb-false tag (length tags) e))
 
 -- the value of a field that is not cut has the length that the field gives
 pub whole_length : (s : List ℕ) (at : ℕ) → next_field_at s at ≤ length s → length (take (length_at s at) (drop (at + 3) s)) ≡ length_at s at
@@ -112,24 +105,21 @@ module _ (s : List ℕ) (tag : ℕ) where
   unfolding values_in
   first_field (stays none same) =
       let at_tag = offset_of s tag in
-      let start : get_or (fields_of s).at tag 0 ≡ 0 = ap (λ (p : Part). p.at) same ∙ none_at tag in
-      let size : get_or (fields_of s).length tag 0 ≡ 0 = ap (λ (p : Part). p.length) same ∙ none_at tag in
+      let own = same ∙ none_at tag in
       let end : length s ≤ at_tag + 3 = omega arith in
       record {
-        has = rw start (sym (le-ltb at_tag (length s) (omega arith)));
-        value = rw size (sym (simp (drop_of_length-le s end, take-nil)));
-        begins = λ h. let z : ltb 0 0 ≡ true = rw start at h in cc;
-        long = rw size refl;
+        has = rw own (sym (le-ltb at_tag (length s) (omega arith)));
+        value = rw own (sym (simp (drop_of_length-le s end, take-nil)));
+        begins = λ h. let z : ltb 0 0 ≡ true = rw own at h in cc;
+        long = rw own refl;
       }
   first_field (comes inside named good unset same) =
       let at_tag = offset_of s tag in
-      let start : get_or (fields_of s).at tag 0 ≡ at_tag + 3 = ap (λ (p : Part). p.at) same in
-      let size : get_or (fields_of s).length tag 0 ≡ length_at s at_tag = ap (λ (p : Part). p.length) same in
       record {
-        has = rw start (lt-ltb 0 (at_tag + 3) (omega arith) ∙ sym (lt-ltb at_tag (length s) inside));
-        value = rw (start, size) refl;
-        begins = λ h. start;
-        long = rw (start, size) (sym (whole_length s at_tag good.whole));
+        has = rw same (lt-ltb 0 (at_tag + 3) (omega arith) ∙ sym (lt-ltb at_tag (length s) inside));
+        value = rw same refl;
+        begins = λ h. ap (λ (p : Part). p.at) same;
+        long = rw same (sym (whole_length s at_tag good.whole));
       }
 
   good-field : offset_of s tag < length s → Under s tag (offset_of s tag) (part_for no_fields tag) (part_for (fields_of s) tag)
@@ -140,7 +130,7 @@ module _ (s : List ℕ) (tag : ℕ) where
   module _ (e : (check_of s).number ≡ 0) where
     collected : Under s tag (offset_of s tag) (part_for no_fields tag) (part_for (fields_of s) tag)
     unfolding offset_of fields_of
-    collected = under (length s) s tag 0 no_fields (omega arith) refl refl (check_none s e).walk
+    collected = under (length s) s tag 0 no_fields (omega arith) refl (check_none s e).walk
 
     pub first : FirstField s tag
     first = first_field collected

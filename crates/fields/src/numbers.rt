@@ -9,11 +9,7 @@ pub fn byte(bytes: &[u8], at: usize) -> u32
     ensures value { result ≡ byte_of bytes.now at }
     ensures upper_bound { result < 256 }
 {
-    if at < bytes.len() {
-        bytes[at] as u32
-    } else {
-        0
-    }
+    bytes.get(at).map_or(0, |b| u32::from(*b))
 }
 
 // The two bytes from an offset on.
@@ -44,10 +40,8 @@ fn joined(bytes: &[u8]) -> u64
     ensures { result ≡ bits_of bytes.now }
 {
     let mut x: u64 = 0;
-    let mut i = 0;
-    while i < 8 {
-        x = (x << 8) | byte(bytes, i) as u64;
-        i = i + 1;
+    for i in 0..8 {
+        x = (x << 8) | u64::from(byte(bytes, i));
     }
     x
 }

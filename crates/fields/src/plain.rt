@@ -1,14 +1,15 @@
 // The plain reader of the fields (request 5), which follows their definition line by line: one pass checks, another collects. `one_pass` is
 // proved equal to it.
 ghost use Rattle.std.specs.Prelude.{◌≡◌, false, ◌≤◌, ◌<◌, length, get_or, replicate};
+ghost use Rattle.refusals.specs.Refusals.{unless_refused};
 ghost use Rattle.fields.specs.Tags.{tags};
 ghost use Rattle.fields.specs.Fields.{longest_order, length_at, walk_of, check_of};
 ghost use Rattle.fields.specs.Values.{fields_of, checked_of};
 
-use super::faults::{HEADER_LENGTH, LONGEST_ORDER, fault};
+use super::faults::{HEADER_LENGTH, LONGEST_ORDER, check_field};
 use super::numbers::{byte, unsigned};
 use super::tags::TAGS;
-use super::values::{Checked, Fields};
+use super::values::{Fields, Part};
 use refusals::{FIELD_CUT, Refusal};
 
 // The length of the value, as the field at an offset gives it.
@@ -24,38 +25,38 @@ fn length_at(order: &[u8], at: usize) -> u32
 fn is_seen(seen: &[bool], tag: u32) -> bool
     ensures { result ≡ get_or seen.now tag false }
 {
-    let row = tag as usize;
-    if row < seen.len() {
-        return seen[row];
-    }
-    false
+    seen.get(tag as usize).copied().unwrap_or(false)
 }
 
-fn walk(order: &[u8]) -> Refusal
+// A `while` here and in `collect`: how far a step goes is what the field at hand says.
+fn walk(order: &[u8]) -> Result<(), Refusal>
     requires { length order.now ≤ longest_order }
-    ensures { result ≡ walk_of (length order.now) order.now (replicate (length tags) false) 0 }
+    ensures { result ≡ unless_refused (walk_of (length order.now) order.now (replicate (length tags) false) 0) tt }
 {
     let mut seen = [false; TAGS];
     let mut at = 0;
     while at < order.len() {
         let tag = byte(order, at);
         let length = length_at(order, at);
-        let number = fault(tag, length, is_seen(&seen, tag), order.len() - at);
-        if number != 0 {
-            return Refusal::new(number, at as u32);
-        }
+        check_field(
+            at as u32,
+            order.len() - at,
+            tag,
+            length,
+            is_seen(&seen, tag),
+        )?;
         seen[tag as usize] = true;
         at = at + HEADER_LENGTH + length as usize;
     }
-    Refusal::none()
+    Ok(())
 }
 
-// The first refusal of the fields' form. Its number is 0 if the form of every field is right.
-fn check(order: &[u8]) -> Refusal
-    ensures { result ≡ check_of order.now }
+// The first refusal of the fields' form.
+fn check(order: &[u8]) -> Result<(), Refusal>
+    ensures { result ≡ unless_refused (check_of order.now) tt }
 {
     if LONGEST_ORDER < order.len() {
-        return Refusal::new(FIELD_CUT, 0);
+        return Err(Refusal::new(FIELD_CUT, 0));
     }
     walk(order)
 }
@@ -65,34 +66,24 @@ fn collect(order: &[u8]) -> Fields
     requires { (check_of order.now).number ≡ 0 }
     ensures { result ≡ fields_of order.now }
 {
-    let mut starts = [0u16; TAGS];
-    let mut lengths = [0u8; TAGS];
+    let mut fields = Fields::none();
     let mut at = 0;
     while at < order.len() {
         let tag = byte(order, at) as usize;
         let length = length_at(order, at);
-        starts[tag] = (at + HEADER_LENGTH) as u16;
-        lengths[tag] = length as u8;
-        at = at + HEADER_LENGTH + length as usize;
+        let start = at + HEADER_LENGTH;
+        fields.parts[tag] = Part {
+            at: start as u32,
+            length,
+        };
+        at = start + length as usize;
     }
-    Fields {
-        at: starts,
-        length: lengths,
-    }
+    fields
 }
 
-pub fn fields_of(order: &[u8]) -> Checked
+pub fn fields_of(order: &[u8]) -> Result<Fields, Refusal>
     ensures { result ≡ checked_of order.now }
 {
-    let refusal = check(order);
-    if refusal.number != 0 {
-        return Checked {
-            refusal: refusal,
-            fields: Fields::none(),
-        };
-    }
-    Checked {
-        refusal: refusal,
-        fields: collect(order),
-    }
+    check(order)?;
+    Ok(collect(order))
 }

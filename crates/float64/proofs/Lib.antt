@@ -2,10 +2,9 @@ pub mod Exact
 pub mod Limits
 pub mod Near
 pub mod Parts
-pub mod Patterns
-pub mod Saturate
 pub mod Steps
 pub mod Values
 pub mod Within
 pub mod WholeSizes
 pub mod Floats
+pub mod Methods

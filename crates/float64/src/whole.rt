@@ -1,5 +1,7 @@
 // Whole numbers near a float. The work is done on positive numbers: for a negative x, on -x. A zero and a NaN are returned as they are,
 // because a zero must keep its sign.
+// std's floor, trunc and round were tried: each takes half as long again, because it takes the size first and sets the sign after.
+// The three public functions differ in what they do to each side of zero. One with closures for that has a longer contract than the three.
 ghost use Rattle.std.specs.Prelude.{◌≡◌, true};
 ghost use Rattle.std.specs.Float.Ieee.{lt, neg};
 ghost use Rattle.float64.specs.Ops.{bits};

@@ -1,15 +1,14 @@
 -- Demand 3 for what a host gets: each result is one of a call's two cases, and order_laws proves it for those. Assumes nothing.
+use Rattle.std.specs.Prelude.{Err, Ok, Option, Result}
+use Rattle.models.specs.declared.prayer.Prayer.{Prayer}
 use Rattle.prelude.proofs.Logic.{◌≡◌, refl, sym, ◌∙◌, true, List, ℕ, ◌≤◌, arith, eqb-false}
 use Rattle.days.specs.Calls.{work_day_of, instant_fits, prayer_at_of}
-use Rattle.days.specs.declared.in_force.InForce.{InForce}
-use Rattle.days.specs.declared.in_force.InForce.TheVariants as force
 use Rattle.katchidul.specs.Exports.{day_answer_of, prayer_answer_of, day_got, prayer_got}
 use Rattle.order_laws.specs.Minutes.{LaterOrder, MovedRow}
 use Rattle.order_laws.proofs.{MinutesLaws.later_orders_move_their_rows, RulesInOrderLaws.day_refused}
 use Rattle.order.specs.Reading.{reading_of}
 use Rattle.refusals.specs.declared.Refusal.{Refusal}
 use Rattle.schedule.specs.{InForce.NotAfter, declared.in_force.Instant.Instant, declared.prayer_times.PrayerTimes.PrayerTimes}
-use Rattle.schedule.specs.declared.prayer_times.Worked.{Worked, TheVariants.Times, TheVariants.Refused}
 use Rattle.schedule_laws.specs.Later.{NoneEarlier, ExactlyLater}
 use Rattle.host_laws.specs.Got.{LaterOrdersMoveForHost}
 
@@ -19,32 +18,32 @@ module _ (a b : List ℕ) (orders : LaterOrder a b) (row : ℕ) where
 
   -- ---- a day
   -- a refused day has a number
-  numbered : (r : Refusal) → work_day_of a row ≡ Refused r → r.number ≡ 0 → ⊥
+  numbered : (r : Refusal) → work_day_of a row ≡ Err r → r.number ≡ 0 → ⊥
   unfolding work_day_of
   numbered r e z = eqb-false r.number 0 (day_refused a row r (reading_of a) refl e) z
 
-  refused-same : (w v : Worked) → work_day_of a row ≡ w → work_day_of b row ≡ v → (day_got a row).refusal ≡ (day_got b row).refusal
+  refused-same : (w v : Result PrayerTimes Refusal) → work_day_of a row ≡ w → work_day_of b row ≡ v → (day_got a row).refusal ≡ (day_got b row).refusal
   unfolding day_answer_of
-  refused-same (Times t) (Times u) e f = rw (e, f)
-  refused-same (Times t) (Refused r) e f =
-      let both : Times t ≡ Refused r = sym e ∙ moved.day.refused_too r f in
+  refused-same (Ok t) (Ok u) e f = rw (e, f)
+  refused-same (Ok t) (Err r) e f =
+      let both : Ok t ≡ Err r = sym e ∙ moved.day.refused_too r f in
       let z : ◌≡◌ {A = ℕ} 0 1 = cc in absurd (omega arith)
-  refused-same (Refused r) v e f = rw (e, moved.day.refused r e)
+  refused-same (Err r) v e f = rw (e, moved.day.refused r e)
 
   -- the times of both orders, if the first has times
   record Got : Type 0 where
     t : PrayerTimes
     u : PrayerTimes
-    at : work_day_of a row ≡ Times t
-    bu : work_day_of b row ≡ Times u
+    at : work_day_of a row ≡ Ok t
+    bu : work_day_of b row ≡ Ok u
 
-  got : (day_got a row).refusal.number ≡ 0 → (w v : Worked) → work_day_of a row ≡ w → work_day_of b row ≡ v → Got
+  got : (day_got a row).refusal.number ≡ 0 → (w v : Result PrayerTimes Refusal) → work_day_of a row ≡ w → work_day_of b row ≡ v → Got
   unfolding day_answer_of
-  got n (Times t) (Times u) e f = record { t = t; u = u; at = e; bu = f }
-  got n (Times t) (Refused r) e f =
-      let both : Times t ≡ Refused r = sym e ∙ moved.day.refused_too r f in
+  got n (Ok t) (Ok u) e f = record { t = t; u = u; at = e; bu = f }
+  got n (Ok t) (Err r) e f =
+      let both : Ok t ≡ Err r = sym e ∙ moved.day.refused_too r f in
       let z : ◌≡◌ {A = ℕ} 0 1 = cc in absurd (omega arith)
-  got n (Refused r) v e f = absurd (numbered r e (rw e at n))
+  got n (Err r) v e f = absurd (numbered r e (rw e at n))
 
   times-got : (P : PrayerTimes → PrayerTimes → Type 0) → (g : Got) → P g.t g.u → P (day_got a row).times (day_got b row).times
   unfolding day_answer_of
@@ -52,23 +51,23 @@ module _ (a b : List ℕ) (orders : LaterOrder a b) (row : ℕ) where
 
   -- ---- an instant
   module _ (t u : Instant) (ht : instant_fits t ≡ true) (hu : instant_fits u ≡ true) where
-    in-force : NotAfter u t → (p q : InForce) → prayer_at_of a row t ≡ p → prayer_at_of b row u ≡ q
+    in-force : NotAfter u t → (p q : Result (Option Prayer) Refusal) → prayer_at_of a row t ≡ p → prayer_at_of b row u ≡ q
         → (prayer_got b row u).prayer ≤ (prayer_got a row t).prayer
     unfolding prayer_answer_of
-    in-force after (force.Prayer x) (force.Prayer y) e f = rw (e, f) (moved.in_force t u ht hu after x y e f)
-    in-force after (force.Refused r) (force.Prayer y) e f =
-        let both : force.Prayer y ≡ force.Refused r = sym f ∙ moved.in_force_refused t u ht hu r e in
+    in-force after (Ok x) (Ok y) e f = rw (e, f) (moved.in_force t u ht hu after x y e f)
+    in-force after (Err r) (Ok y) e f =
+        let both : Ok y ≡ Err r = sym f ∙ moved.in_force_refused t u ht hu r e in
         let z : ◌≡◌ {A = ℕ} 0 1 = cc in absurd (omega arith)
-    in-force after p (force.Refused r) e f = rw f (omega arith)
+    in-force after p (Err r) e f = rw f (omega arith)
 
-    refused_alike : (p q : InForce) → prayer_at_of a row t ≡ p → prayer_at_of b row u ≡ q
+    refused_alike : (p q : Result (Option Prayer) Refusal) → prayer_at_of a row t ≡ p → prayer_at_of b row u ≡ q
         → (prayer_got a row t).refusal ≡ (prayer_got b row u).refusal
     unfolding prayer_answer_of
-    refused_alike (force.Prayer x) (force.Prayer y) e f = rw (e, f)
-    refused_alike (force.Prayer x) (force.Refused r) e f =
-        let both : force.Prayer x ≡ force.Refused r = sym e ∙ moved.in_force_refused_too t u ht hu r f in
+    refused_alike (Ok x) (Ok y) e f = rw (e, f)
+    refused_alike (Ok x) (Err r) e f =
+        let both : Ok x ≡ Err r = sym e ∙ moved.in_force_refused_too t u ht hu r f in
         let z : ◌≡◌ {A = ℕ} 0 1 = cc in absurd (omega arith)
-    refused_alike (force.Refused r) q e f = rw (e, moved.in_force_refused t u ht hu r e)
+    refused_alike (Err r) q e f = rw (e, moved.in_force_refused t u ht hu r e)
 
 pub later_orders_move_for_host : LaterOrdersMoveForHost
 unfolding moved

@@ -1,12 +1,13 @@
 -- Two orders that are read as the same numbers have the same record, except for the town's offset. Assumes nothing.
+use Rattle.std.specs.Prelude.{Ok}
 use Rattle.prelude.proofs.Logic.{◌≡◌, refl, sym, ap, subst, ◌∙◌, Bool, true, false, List, ℕ, arith, pos}
 use Rattle.integers.proofs.Integers.{P, natural}
 use Rattle.fields.specs.{Values.Values, Values.values_of, Numbers.byte_of}
 use Rattle.models.specs.declared.{method.Method.Method}
 use Rattle.models.proofs.Models.{method_of, madhab_of, rule_of, rounding_of, shafaq_of, midnight_of, southern_of, preset_of, method_number_of}
 use Rattle.models.proofs.Models.{madhab_number_of, rule_number_of, rounding_number_of, shafaq_number_of, midnight_number_of, southern_number_of}
-use Rattle.models.proofs.NumbersLaws.{method_back, madhab_back, rule_back, rounding_back, shafaq_back, midnight_back, southern_back}
-use Rattle.order.specs.{declared.reading.Order.Order, declared.reading.Reading.TheVariants.Read, Given.parameters_in}
+use Rattle.models.specs.NumbersLaws.{method_back, madhab_back, rule_back, rounding_back, shafaq_back, midnight_back, southern_back}
+use Rattle.order.specs.{declared.reading.Order.Order, Given.parameters_in}
 use Rattle.order.specs.Reading.{order_of, reading_of, town_of}
 use Rattle.order.proofs.{AcceptedLaws.brought, AcceptedLaws.read_accepted, ReadingLaws.read_passed}
 use Rattle.order_numbers.specs.declared.numbers.OrderNumbers.{OrderNumbers}
@@ -34,15 +35,15 @@ set_told false true e = absurd (omega (arith, e))
 same_choice : {C : Type 0} (of : ℕ → C) (number : C → ℕ) → ((c : C) → of (number c) ≡ c) → (a b : C) → number a ≡ number b → a ≡ b
 same_choice of number back a b e = sym (back a) ∙ ap of e ∙ back b
 
-module _ (s t : List ℕ) (o p : Order) (x : reading_of s ≡ Read o) (y : reading_of t ≡ Read p) (town : List ℕ)
+module _ (s t : List ℕ) (o p : Order) (x : reading_of s ≡ Ok o) (y : reading_of t ≡ Ok p) (town : List ℕ)
     (e : order_read p ≡ again (order_read o) town) where
-  own : (q : Order) (l : List ℕ) → reading_of l ≡ Read q
+  own : (q : Order) (l : List ℕ) → reading_of l ≡ Ok q
       → q.setting.parameters.maghrib_angle ≡ (preset_of q.setting.parameters.method).maghrib_angle
   own q l z = subst (λ (r : Order). r.setting.parameters.maghrib_angle ≡ (preset_of r.setting.parameters.method).maghrib_angle)
       (read_passed l q z).same (maghrib_own (values_of l))
 
   -- an interval that is read is not negative
-  interval : (q : Order) (l : List ℕ) → reading_of l ≡ Read q
+  interval : (q : Order) (l : List ℕ) → reading_of l ≡ Ok q
       → q.setting.parameters.isha_interval ≡ pos (P q.setting.parameters.isha_interval)
   interval q l z =
       let from = (read_accepted l q z).parameters.isha_interval.from in

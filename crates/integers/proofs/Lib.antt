@@ -5,5 +5,4 @@ pub mod OrderLaws
 pub mod Ranges
 pub mod Intervals
 pub mod Held
-pub mod Unsigned
 pub mod Integers

@@ -6,17 +6,11 @@ ghost use Rattle.integers.specs.Parts.{P, N};
 pub fn above(z: i64) -> u64
     ensures { result ≡ P z }
 {
-    if z > 0 {
-        return z as u64;
-    }
-    0
+    z.max(0).unsigned_abs()
 }
 
 pub fn below(z: i64) -> u64
     ensures { result ≡ N z }
 {
-    if z < 0 {
-        return (-(z + 1)) as u64 + 1;
-    }
-    0
+    z.min(0).unsigned_abs()
 }

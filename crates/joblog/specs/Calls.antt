@@ -1,14 +1,12 @@
 -- Request 6, the calls: what each returns, and both lent buffers after it. A log is the first `used` bytes of its buffer. "The log refuses
 -- with 12 if the second buffer is too short for what compaction writes, with 13 for a record out of turn, and with 14 for a count outside
 -- those bounds; they are tried as 13, 14, 12, and the place is the record's page, or for 14, and for 12 at restart, the count."
-use Rattle.std.specs.Prelude.{ℕ, ◌+◌, Bool, false, cond, ◌&&◌, List, ◌++◌, leb, length, take}
+use Rattle.std.specs.Prelude.{ℕ, ◌+◌, Bool, false, cond, ◌&&◌, List, ◌++◌, leb, length, take, Ok, Err}
 use Rattle.refusals.specs.Refusals.{buffer_short, log_second_short, log_out_of_turn, log_count_outside}
 use Rattle.text.specs.Text.{put_of}
 use Rattle.joblog.specs.declared.calls.Log.{Log}
 use Rattle.joblog.specs.declared.records.State.{State}
-use Rattle.joblog.specs.declared.records.LogReading.{LogReading}
-use Rattle.joblog.specs.declared.records.LogReading.TheVariants.{Says, OutOfTurn}
-use Rattle.joblog.specs.Records.{state, record_as, bytes_of, whole_of, in_turn, after_of, log_reading_of, compacted_of}
+use Rattle.joblog.specs.Records.{LogReading, state, record_as, bytes_of, whole_of, in_turn, after_of, log_reading_of, compacted_of}
 
 abbrev pub refused : ℕ → ℕ → Log
 refused number place = record { number = number; place = place; moved = 0; finished = 0; sent = 0; used = 0 }
@@ -19,8 +17,8 @@ answered moved s used = record { number = 0; place = 0; moved = moved; finished 
 
 -- ---- read
 unfoldable pub read_answer : ℕ → LogReading → Log
-read_answer used (Says s) = answered 0 s (whole_of used)
-read_answer used (OutOfTurn page) = refused log_out_of_turn page
+read_answer used (Ok s) = answered 0 s (whole_of used)
+read_answer used (Err e) = refused log_out_of_turn e.page
 
 -- a `used` over the buffer's size is 9; this is checked first
 unfoldable pub read_log_of : List ℕ → ℕ → Log
@@ -56,9 +54,9 @@ logged_of s log used tag page second =
 
 -- the log's own records are tried before the new one
 unfoldable pub appended_of : LogReading → List ℕ → ℕ → ℕ → ℕ → List ℕ → LogCall
-appended_of (Says s) log used tag page second =
+appended_of (Ok s) log used tag page second =
     cond (new_in_turn s tag page) (logged_of s log used tag page second) (refusing log_out_of_turn page log second)
-appended_of (OutOfTurn p) log used tag page second = refusing log_out_of_turn p log second
+appended_of (Err e) log used tag page second = refusing log_out_of_turn e.page log second
 
 unfoldable pub append_of : List ℕ → ℕ → ℕ → ℕ → List ℕ → LogCall
 append_of log used tag page second =
@@ -67,11 +65,11 @@ append_of log used tag page second =
 -- ---- restart
 -- "If that count lies between the log's finished and sent pages, ends included, the log is compacted with the count as finished"
 unfoldable pub restarted_of : LogReading → List ℕ → ℕ → List ℕ → LogCall
-restarted_of (Says s) log count second =
+restarted_of (Ok s) log count second =
     cond (leb s.finished count && leb count s.sent)
     (compacting_of (state count s.sent) (compacted_of (state count s.sent)) count log second)
     (refusing log_count_outside count log second)
-restarted_of (OutOfTurn p) log count second = refusing log_out_of_turn p log second
+restarted_of (Err e) log count second = refusing log_out_of_turn e.page log second
 
 unfoldable pub restart_of : List ℕ → ℕ → ℕ → List ℕ → LogCall
 restart_of log used count second =

@@ -1,10 +1,8 @@
 -- Request 6, the log: bytes, the records that they hold, and what the records say. "A job has a log of five-byte records .., each formed as
 -- an order's field: tag 1 sent, 2 done, 3 finished through (compaction's first record only); length 2; page number."
-use Rattle.std.specs.Prelude.{ℕ, zero, suc, ◌+◌, ◌-◌, ◌*◌, ◌/◌, ◌%◌, Bool, true, false, cond, ◌&&◌, List, [], ◌∷◌, ◌++◌, leb, eqb}
+use Rattle.std.specs.Prelude.{ℕ, zero, suc, ◌+◌, ◌-◌, ◌*◌, ◌/◌, ◌%◌, Bool, true, false, cond, ◌&&◌, List, [], ◌∷◌, ◌++◌, leb, eqb, Result, Ok, Err}
 use Rattle.joblog.specs.declared.records.State.{State}
-use Rattle.joblog.specs.declared.records.Record.{Record}
-use Rattle.joblog.specs.declared.records.LogReading.{LogReading}
-use Rattle.joblog.specs.declared.records.LogReading.TheVariants.{Says, OutOfTurn}
+use Rattle.joblog.specs.declared.records.OutOfTurn.{OutOfTurn}
 
 -- "tag 1 sent, 2 done, 3 finished through"
 abbrev pub sent_tag : ℕ
@@ -19,6 +17,12 @@ finished_tag = 3
 -- a State: pages 1 to `finished` are done, pages 1 to `sent` are sent, and the pages between are open
 abbrev pub state : ℕ → ℕ → State
 state finished sent = record { finished = finished; sent = sent }
+
+-- a record's three numbers
+pub record Record : Type 0 where
+  pub tag : ℕ
+  pub length : ℕ
+  pub page : ℕ
 
 -- a record as an append writes it
 abbrev pub record_as : ℕ → ℕ → Record
@@ -57,9 +61,15 @@ after_of s r =
     (cond (eqb r.tag done_tag) (state r.page s.sent) (state r.page r.page))
 
 -- what the records say, read in order, or the page of the first one that is out of turn
+abbrev pub LogReading : Type 0
+LogReading = Result State OutOfTurn
+
+abbrev pub out_of_turn : ℕ → LogReading
+out_of_turn page = Err (record { page = page })
+
 unfoldable pub read_of : Bool → State → List Record → LogReading
-read_of first s [] = Says s
-read_of first s (r ∷ rest) = cond (in_turn first s r) (read_of false (after_of s r) rest) (OutOfTurn r.page)
+read_of first s [] = Ok s
+read_of first s (r ∷ rest) = cond (in_turn first s r) (read_of false (after_of s r) rest) (out_of_turn r.page)
 
 abbrev pub log_reading_of : List ℕ → LogReading
 log_reading_of log = read_of true (state 0 0) (records_of log)

@@ -2,11 +2,11 @@
 ghost use Rattle.std.specs.Prelude.{◌≡◌, ◌&&◌, [], ◌++◌, ◌≤◌, leb, length};
 ghost use Rattle.text.specs.Text.{put_of};
 ghost use Rattle.joblog.specs.Records.{record_as, bytes_of, whole_of, after_of, compacted_of};
-ghost use Rattle.joblog.specs.Parts.{Bounded};
+ghost use Rattle.joblog.specs.Parts.{tag_of, NewInTurn, RestartedTo};
 ghost use Rattle.joblog.specs.Calls.{refused, answered, read_answer, read_log_of, compact_answer, new_in_turn, logged_of, appended_of};
 ghost use Rattle.joblog.specs.Calls.{append_of, restarted_of, restart_of};
 
-use super::records::{LogReading, State, after, in_turn, new_record, scan};
+use super::records::{Kind, OutOfTurn, State, scan};
 use super::writing::{open_pages, put_compacted, put_record};
 use refusals::{BUFFER_SHORT, LOG_COUNT_OUTSIDE, LOG_OUT_OF_TURN, LOG_SECOND_SHORT};
 
@@ -27,8 +27,8 @@ fn refuse(number: u32, place: u32) -> Log
     ensures { result ≡ refused number place }
 {
     Log {
-        number: number,
-        place: place,
+        number,
+        place,
         moved: 0,
         finished: 0,
         sent: 0,
@@ -42,10 +42,10 @@ fn answer(moved: u32, says: State, used: usize) -> Log
     Log {
         number: 0,
         place: 0,
-        moved: moved,
-        finished: says.finished,
-        sent: says.sent,
-        used: used,
+        moved,
+        finished: u32::from(says.finished),
+        sent: u32::from(says.sent),
+        used,
     }
 }
 
@@ -56,12 +56,13 @@ fn whole(used: usize) -> usize
     used / 5 * 5
 }
 
-fn read_answer(reading: LogReading, used: usize) -> Log
+#[tactic(auto, unfolding(crate::specs::Calls::read_answer))]
+fn read_answer(reading: Result<State, OutOfTurn>, used: usize) -> Log
     ensures { result ≡ read_answer used reading }
 {
     match reading {
-        LogReading::Says(s) => answer(0, s, whole(used)),
-        LogReading::OutOfTurn(page) => refuse(LOG_OUT_OF_TURN, page),
+        Ok(s) => answer(0, s, whole(used)),
+        Err(e) => refuse(LOG_OUT_OF_TURN, u32::from(e.page)),
     }
 }
 
@@ -75,9 +76,8 @@ pub fn read_log(log: &[u8], used: usize) -> Log
     read_answer(scan(&log[..used]), used)
 }
 
-// Compacts the log into the second buffer. Returns 12 if it is too short.
+// Writes the compacted log into the second buffer. Returns 12 if it is too short.
 fn compact(s: State, place: u32, second: &mut [u8]) -> Log
-    requires { (s.finished ≤ 65535) × (s.sent ≤ 65535) }
     ensures value { result ≡ compact_answer s (compacted_of s) place second.old }
     ensures second_after { second.new ≡ put_of second.old 0 (compacted_of s) }
 {
@@ -89,68 +89,63 @@ fn compact(s: State, place: u32, second: &mut [u8]) -> Log
 }
 
 // The same, with the new record after the open pages.
-fn compact_with(s: State, tag: u32, page: u32, second: &mut [u8]) -> Log
-    requires { (s.finished ≤ 65535) × (s.sent ≤ 65535) × (tag ≤ 255) × (page ≤ 65535) }
-    ensures value { result ≡ compact_answer (after_of s (record_as tag page)) (compacted_of s ++ bytes_of tag page) page second.old }
-    ensures second_after { second.new ≡ put_of second.old 0 (compacted_of s ++ bytes_of tag page) }
+fn compact_with(s: State, kind: Kind, page: u16, second: &mut [u8]) -> Log
+    ensures value { result ≡ compact_answer (after_of s (record_as (tag_of kind) page)) (compacted_of s ++ bytes_of (tag_of kind) page) page second.old }
+    ensures second_after { second.new ≡ put_of second.old 0 (compacted_of s ++ bytes_of (tag_of kind) page) }
 {
     if 10 + 5 * open_pages(s) > second.len() {
-        return refuse(LOG_SECOND_SHORT, page);
+        return refuse(LOG_SECOND_SHORT, u32::from(page));
     }
     let at = put_compacted(&mut second[..], s);
-    put_record(&mut second[..], at, tag, page);
-    answer(1, after(s, new_record(tag, page)), at + 5)
+    put_record(&mut second[..], at, kind, page);
+    answer(1, s.with(kind, page), at + 5)
 }
 
 // Writes the new record after the whole ones. If the log is full, it is compacted into the second buffer with the new record.
-fn write(s: State, log: &mut [u8], used: usize, tag: u32, page: u32, second: &mut [u8]) -> Log
-    requires { (s.finished ≤ 65535) × (s.sent ≤ 65535) × (tag ≤ 255) × (page ≤ 65535) × (used ≤ length log.old) }
-    ensures value { result ≡ (logged_of s log.old used tag page second.old).answer }
-    ensures log_after { log.new ≡ (logged_of s log.old used tag page second.old).log }
-    ensures second_after { second.new ≡ (logged_of s log.old used tag page second.old).second }
+fn write(s: State, log: &mut [u8], used: usize, kind: Kind, page: u16, second: &mut [u8]) -> Log
+    requires { used ≤ length log.old }
+    ensures value { result ≡ (logged_of s log.old used (tag_of kind) page second.old).answer }
+    ensures log_after { log.new ≡ (logged_of s log.old used (tag_of kind) page second.old).log }
+    ensures second_after { second.new ≡ (logged_of s log.old used (tag_of kind) page second.old).second }
 {
     let at = whole(used);
     if log.len() - at >= 5 {
-        put_record(&mut log[..], at, tag, page);
-        return answer(0, after(s, new_record(tag, page)), at + 5);
+        put_record(&mut log[..], at, kind, page);
+        return answer(0, s.with(kind, page), at + 5);
     }
-    compact_with(s, tag, page, &mut second[..])
+    compact_with(s, kind, page, &mut second[..])
 }
 
-// A record has two bytes for its page, so a larger page would be written as another one.
-fn new_in_turn(s: State, tag: u32, page: u32) -> bool
-    ensures { result ≡ new_in_turn s tag page }
+// A record that may be appended, or None. It has two bytes for its page, so a larger page would be written as another one.
+#[tactic(auto, unfolding(crate::specs::Calls::new_in_turn, crate::specs::Records::in_turn))]
+fn new_in_turn(s: State, tag: u32, page: u32) -> Option<(Kind, u16)>
+    ensures { NewInTurn s tag page result }
 {
-    if page > 65535 {
-        return false;
-    }
-    in_turn(false, s, new_record(tag, page))
+    let kind = Kind::of_tag(tag)?;
+    let page = u16::try_from(page).ok()?;
+    s.takes(false, kind, page).then_some((kind, page))
 }
 
 // Appends a record to a log that has been read.
 fn append_read(
-    reading: LogReading,
+    reading: Result<State, OutOfTurn>,
     log: &mut [u8],
     used: usize,
     tag: u32,
     page: u32,
     second: &mut [u8],
 ) -> Log
-    requires { Bounded reading × (used ≤ length log.old) }
+    requires { used ≤ length log.old }
     ensures value { result ≡ (appended_of reading log.old used tag page second.old).answer }
     ensures log_after { log.new ≡ (appended_of reading log.old used tag page second.old).log }
     ensures second_after { second.new ≡ (appended_of reading log.old used tag page second.old).second }
 {
     match reading {
-        LogReading::Says(s) => {
-            if new_in_turn(s, tag, page) {
-                return write(s, &mut log[..], used, tag, page, &mut second[..]);
-            }
-            return refuse(LOG_OUT_OF_TURN, page);
-        }
-        LogReading::OutOfTurn(first) => {
-            return refuse(LOG_OUT_OF_TURN, first);
-        }
+        Ok(s) => match new_in_turn(s, tag, page) {
+            Some((kind, new)) => write(s, &mut log[..], used, kind, new, &mut second[..]),
+            None => refuse(LOG_OUT_OF_TURN, page),
+        },
+        Err(e) => refuse(LOG_OUT_OF_TURN, u32::from(e.page)),
     }
 }
 
@@ -167,32 +162,28 @@ pub fn append(log: &mut [u8], used: usize, tag: u32, page: u32, second: &mut [u8
     append_read(reading, &mut log[..], used, tag, page, &mut second[..])
 }
 
-fn between(low: u32, count: u32, high: u32) -> bool
-    ensures { result ≡ (leb low count && leb count high) }
+// The state after a restart with this count, or None if it is outside the log's finished and sent pages.
+fn restarted(s: State, count: u32) -> Option<State>
+    ensures { RestartedTo s count result }
 {
-    (low <= count) & (count <= high)
+    let finished = u16::try_from(count).ok()?;
+    (s.finished..=s.sent).contains(&finished).then_some(State {
+        finished,
+        sent: s.sent,
+    })
 }
 
 // What a restart writes depends only on what the log says, so the contract has no bytes of the first buffer.
-fn restart_read(reading: LogReading, count: u32, second: &mut [u8]) -> Log
-    requires { Bounded reading }
+fn restart_read(reading: Result<State, OutOfTurn>, count: u32, second: &mut [u8]) -> Log
     ensures value { result ≡ (restarted_of reading [] count second.old).answer }
     ensures second_after { second.new ≡ (restarted_of reading [] count second.old).second }
 {
     match reading {
-        LogReading::Says(s) => {
-            if between(s.finished, count, s.sent) {
-                let t = State {
-                    finished: count,
-                    sent: s.sent,
-                };
-                return compact(t, count, &mut second[..]);
-            }
-            return refuse(LOG_COUNT_OUTSIDE, count);
-        }
-        LogReading::OutOfTurn(first) => {
-            return refuse(LOG_OUT_OF_TURN, first);
-        }
+        Ok(s) => match restarted(s, count) {
+            Some(t) => compact(t, count, &mut second[..]),
+            None => refuse(LOG_COUNT_OUTSIDE, count),
+        },
+        Err(e) => refuse(LOG_OUT_OF_TURN, u32::from(e.page)),
     }
 }
 

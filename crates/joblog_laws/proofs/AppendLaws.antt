@@ -5,7 +5,7 @@ use Rattle.prelude.proofs.Logic.{drop-drop, length-take-le, le-leb, leb-true, le
 use Rattle.refusals.specs.Refusals.{log_second_short, log_out_of_turn}
 use Rattle.text.specs.Text.{put_of}
 use Rattle.joblog.specs.declared.records.{State.State}
-use Rattle.joblog.specs.declared.records.LogReading.TheVariants.{Says}
+use Rattle.std.proofs.Common.{Ok}
 use Rattle.joblog.specs.Records.{state, record_as, bytes_of, records_of, whole_of, in_turn, after_of, read_of, log_reading_of, compacted_of}
 use Rattle.joblog.specs.declared.calls.Log.{Log}
 use Rattle.joblog.specs.Calls.{LogCall, refusing, answered, read_log_of, new_in_turn, compact_answer, compacting_of}
@@ -242,7 +242,7 @@ module _ (log : List ℕ) (used count : ℕ) (second : List ℕ) where
   Restarted c =
       eqb c.answer.number 0 ≡ true → SaysSo c used × (c.answer.finished ≡ count) × (c.answer.sent ≡ (read_log_of log used).sent)
 
-  restart-says : (s : State) → Held log used s → Restarted (restarted_of (Says s) log count second)
+  restart-says : (s : State) → Held log used s → Restarted (restarted_of (Ok s) log count second)
   unfolding Restarted restarted_of compact_answer
   restart-says s h =
       let now = state count s.sent in

@@ -5,9 +5,9 @@ use Rattle.prelude.proofs.Logic.{take_at, length-take-le, le-leb, lt-leb, leb-tr
 use mathlib.Core.Bool.{and-false}
 use Rattle.refusals.specs.Refusals.{buffer_short, log_second_short, log_out_of_turn}
 use Rattle.text.specs.Text.{put_of}
-use Rattle.joblog.specs.declared.records.{State.State, LogReading.LogReading}
-use Rattle.joblog.specs.declared.records.LogReading.TheVariants.{Says, OutOfTurn}
-use Rattle.joblog.specs.Records.{state, record_as, bytes_of, records_of, whole_of, in_turn, after_of, read_of, log_reading_of, compacted_of}
+use Rattle.joblog.specs.declared.records.State.{State}
+use Rattle.std.proofs.Common.{Ok, Err}
+use Rattle.joblog.specs.Records.{LogReading, state, out_of_turn, record_as, bytes_of, records_of, whole_of, in_turn, after_of, read_of, log_reading_of, compacted_of}
 use Rattle.joblog.specs.Calls.{LogCall, refusing, answered, read_log_of, read_answer, new_in_turn, compact_answer, compacting_of}
 use Rattle.joblog.specs.Calls.{logged_of, appended_of, append_of, restarted_of, restart_of}
 use Rattle.joblog.proofs.CompactLaws.{put_length}
@@ -21,14 +21,14 @@ second_of false b f h = h
 -- ---- the first `used` bytes of a buffer are a log that says this
 pub record Held (log : List ℕ) (used : ℕ) (s : State) : Type 0 where
   pub fits : used ≤ length log
-  pub reads : log_reading_of (take used log) ≡ Says s
+  pub reads : log_reading_of (take used log) ≡ Ok s
   pub ordered : s.finished ≤ s.sent
 
 pub held_read : (log : List ℕ) (used : ℕ) (s : State) → Held log used s → read_log_of log used ≡ answered 0 s (whole_of used)
 unfolding read_log_of read_answer
 held_read log used s h = rw (le-leb used (length log) h.fits, h.reads)
 
-pub read_held : (log : List ℕ) (used : ℕ) (s : State) → leb used (length log) ≡ true → log_reading_of (take used log) ≡ Says s
+pub read_held : (log : List ℕ) (used : ℕ) (s : State) → leb used (length log) ≡ true → log_reading_of (take used log) ≡ Ok s
     → Held log used s
 read_held log used s f e =
     record {
@@ -39,16 +39,16 @@ read_held log used s f e =
 
 -- a call on any log: it is refused, by another number than 12, or the log can be read. `call` is what the call returns and leaves
 pub log_cases : (log : List ℕ) (used : ℕ) (second : List ℕ) (call : LogReading → LogCall)
-    → ((p : ℕ) → call (OutOfTurn p) ≡ refusing log_out_of_turn p log second) → (P : LogCall → Type 0)
+    → ((p : ℕ) → call (out_of_turn p) ≡ refusing log_out_of_turn p log second) → (P : LogCall → Type 0)
     → ((number place : ℕ) → eqb number 0 ≡ false → eqb number log_second_short ≡ false → P (refusing number place log second))
-    → ((s : State) → Held log used s → P (call (Says s)))
+    → ((s : State) → Held log used s → P (call (Ok s)))
     → P (cond (leb used (length log)) (call (log_reading_of (take used log))) (refusing buffer_short 0 log second))
 log_cases log used second call out P refused-so said-so =
     arms P (leb used (length log)) (λ f. by-reading f (log_reading_of (take used log)) refl) (λ f. refused-so buffer_short 0 refl refl)
   where
     by-reading : leb used (length log) ≡ true → (x : LogReading) → log_reading_of (take used log) ≡ x → P (call x)
-    by-reading f (OutOfTurn p) e = rw (out p) (refused-so log_out_of_turn p refl refl)
-    by-reading f (Says s) e = said-so s (read_held log used s f e)
+    by-reading f (Err o) e = rw (out o.page) (refused-so log_out_of_turn o.page refl refl)
+    by-reading f (Ok s) e = said-so s (read_held log used s f e)
 
 -- ---- bytes that are put
 pub put_read : (buffer text : List ℕ) (at : ℕ) → at + length text ≤ length buffer
@@ -96,7 +96,7 @@ change_ordered (done a b c) h = c
 
 -- ---- append
 -- a log says what its whole records say
-whole_reads : (log : List ℕ) (used : ℕ) (s : State) → Held log used s → log_reading_of (take (whole_of used) log) ≡ Says s
+whole_reads : (log : List ℕ) (used : ℕ) (s : State) → Held log used s → log_reading_of (take (whole_of used) log) ≡ Ok s
 whole_reads log used s h =
     let f = h.fits in
     ap (read_of true (state 0 0)) (sym (cut_records (used / 5) log used (omega arith) (omega arith) (omega arith))) ∙ h.reads
@@ -124,7 +124,7 @@ module _ (log : List ℕ) (used : ℕ) (s : State) (h : Held log used s) (tag pa
   unfolding read_of
   moved-held second room =
       let p = put_front_read (compacted_of s ++ bytes_of tag page) second room in
-      let one : read_of false s (record_as tag page ∷ []) ≡ Says (after_of s (record_as tag page)) = rw turn in
+      let one : read_of false s (record_as tag page ∷ []) ≡ Ok (after_of s (record_as tag page)) = rw turn in
       record {
         fits = p.1;
         reads = rw (p.0, compacted_read s (bytes_of tag page) h.ordered, record_back tag page) one;
@@ -194,7 +194,7 @@ module _ (log : List ℕ) (used : ℕ) (s : State) (tag page : ℕ) (second : Li
           second = put_of second 0 (compacted_of s ++ bytes_of tag page);
         })
 
-  pub said-outcome : Outcome (appended_of (Says s) log used tag page second)
+  pub said-outcome : Outcome (appended_of (Ok s) log used tag page second)
   unfolding appended_of new_in_turn logged_of compact_answer
   said-outcome =
       arms Outcome (leb page 65535 && in_turn false s (record_as tag page))

@@ -8,7 +8,7 @@ use Rattle.prelude.specs.Lists.{listed}
 use Rattle.joblog_laws.specs.Run.{idle, World, world, begun, goes, finishes, restart, as_requested, is_idle, finishing, next, run}
 use Rattle.joblog_laws.specs.Histories.{pages_to, Kept, HistoriesAreKept, send_all, OpenPagesCome}
 use Rattle.joblog.proofs.CompactLaws.{compacted_length}
-use Rattle.joblog_laws.proofs.HeldLaws.{held_read, sent, restart_held}
+use Rattle.joblog_laws.proofs.HeldLaws.{held_read, restart_held}
 use Rattle.joblog_laws.proofs.PageLaws.{pages_front, listed_pages}
 use Rattle.joblog_laws.proofs.StepLaws.{count, Inv, counted, held_now, count_between, restarted, restart_kept, run_kept, begun_kept}
 

@@ -1,9 +1,8 @@
 -- Request 6: both buffers after a single call, and a cut at any byte of an append. Proved in proofs/AppendLaws.
-use Rattle.std.specs.Prelude.{ℕ, ◌+◌, ◌-◌, ◌*◌, ◌≤◌, ◌<◌, ◌≡◌, true, false, cond, List, ◌++◌, ltb, eqb, length, take, drop}
+use Rattle.std.specs.Prelude.{ℕ, ◌+◌, ◌-◌, ◌*◌, ◌≤◌, ◌<◌, ◌≡◌, true, false, cond, List, ◌++◌, ltb, eqb, length, take, drop, Ok}
 use Rattle.refusals.specs.Refusals.{log_second_short}
 use Rattle.text.specs.Text.{put_of}
 use Rattle.joblog.specs.Records.{state, bytes_of, whole_of, log_reading_of, compacted_of}
-use Rattle.joblog.specs.declared.records.LogReading.TheVariants.{Says}
 use Rattle.joblog.specs.Calls.{LogCall, read_log_of, append_of, restart_of}
 use Rattle.joblog_laws.specs.Run.{log_after, used_after, in_place}
 
@@ -65,7 +64,7 @@ LogRoomIsEnough =
 
 -- ---- "one finished record (page 0 if none is done), then the open pages": the compacted log says what the log said before
 abbrev pub CompactionSaysTheSame : Type 0
-CompactionSaysTheSame = (finished sent : ℕ) → finished ≤ sent → let s = state finished sent in log_reading_of (compacted_of s) ≡ Says s
+CompactionSaysTheSame = (finished sent : ℕ) → finished ≤ sent → let s = state finished sent in log_reading_of (compacted_of s) ≡ Ok s
 
 -- ---- after a call that is not refused, the log says what the call returns
 abbrev pub SaysSo : LogCall → ℕ → Type 0

@@ -37,10 +37,11 @@ pub fn julian_day(year: i32, month: i32, day: i32, hours: f64) -> f64
 }
 
 // n, or the largest i32 if n is above it.
+#[tactic(auto, unfolding(crate::specs::Julian::to_i32_of))]
 fn saturated(n: u32) -> i32
     ensures { result ≡ to_i32_of n }
 {
-    if n < 2147483648 { n as i32 } else { 2147483647 }
+    n.min(i32::MAX as u32) as i32
 }
 
 // The Julian Day of a date at 0 h.

@@ -15,12 +15,12 @@ pub fn katchidul_append(log: &mut [u8], used: usize, tag: u32, page: u32, second
     ensures log_after { log.new ≡ (append_of log.old used tag page second.old).log }
     ensures second_after { second.new ≡ (append_of log.old used tag page second.old).second }
 {
-    append(&mut log[..], used, tag, page, &mut second[..])
+    append(log, used, tag, page, second)
 }
 
 pub fn katchidul_restart(log: &[u8], used: usize, count: u32, second: &mut [u8]) -> Log
     ensures value { result ≡ (restart_of log.now used count second.old).answer }
     ensures second_after { second.new ≡ (restart_of log.now used count second.old).second }
 {
-    restart(log, used, count, &mut second[..])
+    restart(log, used, count, second)
 }

@@ -3,10 +3,9 @@ ghost use Rattle.std.specs.Prelude.{◌≡◌};
 ghost use Rattle.days.specs.Calls.{instant_of, remaining_at_of};
 ghost use Rattle.katchidul.specs.Exports.{remaining_answer_of};
 
-use super::prayer_at::instant;
-use days::in_force::{TimeUntil, remaining_at};
+use days::in_force::remaining_at;
 use refusals::Refusal;
-use schedule::in_force::HoursMinutes;
+use schedule::in_force::{HoursMinutes, Instant};
 
 #[repr(C)]
 #[derive(Clone, Copy)]
@@ -15,16 +14,16 @@ pub struct KatchidulRemaining {
     pub time: HoursMinutes,
 }
 
-fn remaining_answer(answer: TimeUntil) -> KatchidulRemaining
+fn remaining_answer(answer: Result<HoursMinutes, Refusal>) -> KatchidulRemaining
     ensures { result ≡ remaining_answer_of answer }
 {
     match answer {
-        TimeUntil::Time(time) => KatchidulRemaining {
+        Ok(time) => KatchidulRemaining {
             refusal: Refusal::none(),
-            time: time,
+            time,
         },
-        TimeUntil::Refused(refusal) => KatchidulRemaining {
-            refusal: refusal,
+        Err(refusal) => KatchidulRemaining {
+            refusal,
             time: HoursMinutes {
                 hours: 0,
                 minutes: 0,
@@ -41,5 +40,12 @@ pub fn katchidul_remaining_at(
 ) -> KatchidulRemaining
     ensures { result ≡ remaining_answer_of (remaining_at_of order.now row (instant_of seconds nanoseconds)) }
 {
-    remaining_answer(remaining_at(order, row, instant(seconds, nanoseconds)))
+    remaining_answer(remaining_at(
+        order,
+        row,
+        Instant {
+            seconds,
+            nanoseconds,
+        },
+    ))
 }

@@ -9,7 +9,7 @@ pub fn katchidul_write_sentence(number: u32, place: u32, buffer: &mut [u8]) -> W
     ensures value { result ≡ (sentence_call_of number place buffer.old).answer }
     ensures buffer_after { buffer.new ≡ (sentence_call_of number place buffer.old).buffer }
 {
-    write_sentence(number, place, &mut buffer[..])
+    write_sentence(number, place, buffer)
 }
 
 pub fn katchidul_read_sentence(sentence: &[u8]) -> Meaning

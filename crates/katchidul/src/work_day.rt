@@ -4,7 +4,7 @@ ghost use Rattle.katchidul.specs.Exports.{day_answer_of, day_got};
 
 use days::day::work_day;
 use refusals::Refusal;
-use schedule::prayer_times::{PrayerTimes, Worked};
+use schedule::prayer_times::PrayerTimes;
 
 // In C the times are an array of nine.
 #[repr(C)]
@@ -14,16 +14,16 @@ pub struct KatchidulDay {
     pub times: PrayerTimes,
 }
 
-fn day_answer(worked: Worked) -> KatchidulDay
+fn day_answer(worked: Result<PrayerTimes, Refusal>) -> KatchidulDay
     ensures { result ≡ day_answer_of worked }
 {
     match worked {
-        Worked::Times(times) => KatchidulDay {
+        Ok(times) => KatchidulDay {
             refusal: Refusal::none(),
-            times: times,
+            times,
         },
-        Worked::Refused(refusal) => KatchidulDay {
-            refusal: refusal,
+        Err(refusal) => KatchidulDay {
+            refusal,
             times: PrayerTimes::NONE,
         },
     }

@@ -10,12 +10,12 @@ pub fn katchidul_write_cells(order: &[u8], row: u32, buffer: &mut [u8]) -> Punch
     ensures value { result ≡ (cells_call_of order.now row buffer.old).answer }
     ensures buffer_after { buffer.new ≡ (cells_call_of order.now row buffer.old).buffer }
 {
-    write_cells(order, row, &mut buffer[..])
+    write_cells(order, row, buffer)
 }
 
 pub fn katchidul_write_page(order: &[u8], page: u32, first: u32, scratch: &mut [u8]) -> Punched
     ensures value { result ≡ (page_call_of order.now page first scratch.old).answer }
     ensures scratch_after { scratch.new ≡ (page_call_of order.now page first scratch.old).buffer }
 {
-    write_page(order, page, first, &mut scratch[..])
+    write_page(order, page, first, scratch)
 }

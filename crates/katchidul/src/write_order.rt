@@ -9,5 +9,5 @@ pub fn katchidul_write_order(order: OrderNumbers, town: &[u8], buffer: &mut [u8]
     ensures value { result ≡ (order_call_of order town.now buffer.old).answer }
     ensures buffer_after { buffer.new ≡ (order_call_of order town.now buffer.old).buffer }
 {
-    write_order(order, town, &mut buffer[..])
+    write_order(order, town, buffer)
 }

@@ -9,5 +9,5 @@ pub fn katchidul_write_row(order: &[u8], row: u32, buffer: &mut [u8]) -> Refusal
     ensures value { result ≡ (row_call_of order.now row buffer.old).answer }
     ensures buffer_after { buffer.new ≡ (row_call_of order.now row buffer.old).buffer }
 {
-    write_row(order, row, &mut buffer[..])
+    write_row(order, row, buffer)
 }

@@ -50,7 +50,7 @@ pub extern "C" fn katchidul_write_order(
     ensures value { result ≡ (order_call_of order town.now buffer.old).answer }
     ensures buffer_after { buffer.new ≡ (order_call_of order town.now buffer.old).buffer }
 {
-    katchidul::write_order::katchidul_write_order(order, town, &mut buffer[..])
+    katchidul::write_order::katchidul_write_order(order, town, buffer)
 }
 
 #[unsafe(no_mangle)]
@@ -115,7 +115,7 @@ pub extern "C" fn katchidul_write_row(order: &[u8], row: u32, buffer: &mut [u8])
     ensures value { result ≡ (row_call_of order.now row buffer.old).answer }
     ensures buffer_after { buffer.new ≡ (row_call_of order.now row buffer.old).buffer }
 {
-    katchidul::write_row::katchidul_write_row(order, row, &mut buffer[..])
+    katchidul::write_row::katchidul_write_row(order, row, buffer)
 }
 
 #[unsafe(no_mangle)]
@@ -123,7 +123,7 @@ pub extern "C" fn katchidul_write_cells(order: &[u8], row: u32, buffer: &mut [u8
     ensures value { result ≡ (cells_call_of order.now row buffer.old).answer }
     ensures buffer_after { buffer.new ≡ (cells_call_of order.now row buffer.old).buffer }
 {
-    katchidul::write_cells::katchidul_write_cells(order, row, &mut buffer[..])
+    katchidul::write_cells::katchidul_write_cells(order, row, buffer)
 }
 
 #[unsafe(no_mangle)]
@@ -136,7 +136,7 @@ pub extern "C" fn katchidul_write_page(
     ensures value { result ≡ (page_call_of order.now page first scratch.old).answer }
     ensures scratch_after { scratch.new ≡ (page_call_of order.now page first scratch.old).buffer }
 {
-    katchidul::write_cells::katchidul_write_page(order, page, first, &mut scratch[..])
+    katchidul::write_cells::katchidul_write_page(order, page, first, scratch)
 }
 
 #[unsafe(no_mangle)]
@@ -172,7 +172,7 @@ pub extern "C" fn katchidul_append(
     ensures log_after { log.new ≡ (append_of log.old used tag page second.old).log }
     ensures second_after { second.new ≡ (append_of log.old used tag page second.old).second }
 {
-    katchidul::job_log::katchidul_append(&mut log[..], used, tag, page, &mut second[..])
+    katchidul::job_log::katchidul_append(log, used, tag, page, second)
 }
 
 #[unsafe(no_mangle)]
@@ -180,7 +180,7 @@ pub extern "C" fn katchidul_restart(log: &[u8], used: usize, count: u32, second:
     ensures value { result ≡ (restart_of log.now used count second.old).answer }
     ensures second_after { second.new ≡ (restart_of log.now used count second.old).second }
 {
-    katchidul::job_log::katchidul_restart(log, used, count, &mut second[..])
+    katchidul::job_log::katchidul_restart(log, used, count, second)
 }
 
 #[unsafe(no_mangle)]
@@ -192,7 +192,7 @@ pub extern "C" fn katchidul_write_sentence(
     ensures value { result ≡ (sentence_call_of number place buffer.old).answer }
     ensures buffer_after { buffer.new ≡ (sentence_call_of number place buffer.old).buffer }
 {
-    katchidul::sentence::katchidul_write_sentence(number, place, &mut buffer[..])
+    katchidul::sentence::katchidul_write_sentence(number, place, buffer)
 }
 
 #[unsafe(no_mangle)]

@@ -1,11 +1,11 @@
 -- How long the lines are. Assumes nothing.
+use Rattle.std.specs.Prelude.{Err, Ok, Result}
 use Rattle.prelude.proofs.Logic.{◌≡◌, refl, Bool, true, false, cond, List, [], ◌∷◌, ◌++◌, ℕ, ◌+◌, ◌*◌, ◌≤◌, arith, lit≤, ℤ, length}
 use Rattle.prelude.proofs.Logic.{length-append}
 use Rattle.calendar.specs.declared.dates.Date.{Date}
 use Rattle.hijri.specs.declared.ramadan.Ramadan.{Ramadan}
-use Rattle.schedule.specs.declared.{prayer_times.PrayerTimes.PrayerTimes, prayer_times.Worked.Worked}
+use Rattle.schedule.specs.declared.{prayer_times.PrayerTimes.PrayerTimes}
 use Rattle.refusals.specs.declared.Refusal.{Refusal}
-use Rattle.schedule.specs.declared.prayer_times.Worked.TheVariants.{Times, Refused}
 use Rattle.text.specs.Text.{ascii, decimal_of}
 use Rattle.text.proofs.TextLaws.{digits_short}
 use Rattle.lines.specs.Lines.{date_text, time_text, times_text, imsak_of, nine_of, columns_of, row_text, row_bytes, full_row, row_room}
@@ -83,10 +83,10 @@ full_row_lem ramadan = go ramadan.set
     go true = (lit≤ tt, lit≤ tt)
     go false = (lit≤ tt, lit≤ tt)
 
-pub line_length_lem : (ramadan : Ramadan) (date : Date) (worked : Worked) → length (line_text ramadan date worked) ≤ row_room ramadan
+pub line_length_lem : (ramadan : Ramadan) (date : Date) (worked : Result PrayerTimes Refusal) → length (line_text ramadan date worked) ≤ row_room ramadan
 unfolding line_text
-line_length_lem ramadan date (Times t) = let n = columns_length ramadan date t in omega arith
-line_length_lem ramadan date (Refused r) =
+line_length_lem ramadan date (Ok t) = let n = columns_length ramadan date t in omega arith
+line_length_lem ramadan date (Err r) =
     let d = date_length date in
     let n = refused_length (date_text date) (ascii " day ") r in
     omega (arith, (full_row_lem ramadan).0)

@@ -1,8 +1,8 @@
 -- A time on the date or on a day beside it, in the machine's numbers. Assumes nothing.
-use Rattle.prelude.proofs.Logic.{◌≡◌, sym, ap, subst, ◌∙◌, true, false, ℕ, ◌+◌, ◌*◌, ◌^◌, ◌≤◌, ◌<◌, arith, lit<, T, ℤ, pos, negsuc, nat_abs}
-use Rattle.prelude.proofs.Logic.{◌+ℤ◌, ◌-ℤ◌, ◌*ℤ◌, lt_z, non_neg, w64, SFits, Fits}
-use Rattle.integers.proofs.Integers.{P, N, Near, floor_quot, floor_rem, by_balance, lt_yes, lt_no, same, natural, floored, fits, read_back}
-use Rattle.integers.proofs.Integers.{read, sum, difference, differences, times}
+use Rattle.prelude.proofs.Logic.{◌≡◌, sym, ap, subst, ◌∙◌, true, false, ℕ, ◌+◌, ◌*◌, ◌≤◌, ◌<◌, arith, lit<, T, ℤ, pos, nat_abs}
+use Rattle.prelude.proofs.Logic.{◌-ℤ◌, lt_z, non_neg, w64, SFits, Fits}
+use Rattle.integers.proofs.Integers.{P, N, floor_quot, floor_rem, by_balance, lt_yes, lt_no, same, natural, floored, fits, read_back}
+use Rattle.integers.proofs.Integers.{read, difference, differences}
 use Rattle.calendar.proofs.CalendarLaws.{day_zero}
 use Rattle.calendar.specs.Days.{day_number_of}
 use Rattle.calendar.specs.declared.dates.Date.{Date}

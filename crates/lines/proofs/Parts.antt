@@ -1,6 +1,6 @@
 -- The times of a row, one after another. Assumes nothing.
 use Rattle.prelude.proofs.Logic.{◌≡◌, refl, sym, ap, ◌∙◌, List, [], ◌∷◌, ◌++◌, append_assoc, append-nil, ℕ, ◌+◌, ◌*◌, ◌<◌, ◌≤◌, add-one}
-use Rattle.prelude.proofs.Logic.{arith, ℤ, length, get_or, take, drop, length-append, length-drop, drop-drop, le-leb, lt-leb}
+use Rattle.prelude.proofs.Logic.{arith, ℤ, length, get_or, take, drop, length-append, drop-drop, le-leb, lt-leb}
 use Rattle.prelude.proofs.Logic.{drop_of_length-le, take-suc, take-length, length-take-le}
 use Rattle.calendar.specs.declared.dates.Date.{Date}
 use Rattle.text.specs.Text.{ascii, put_of, front_of}
@@ -22,20 +22,6 @@ filled_put buffer text at k e room =
     ap (λ (rest : List ℕ). take at buffer ++ (text ++ rest)) (drop-drop k at buffer ∙ ap (λ (i : ℕ). drop (at + i) buffer) e)
     ∙ sym (append_assoc (take at buffer) text (drop (at + length text) buffer))
     ∙ sym (rw (le-leb (at + length text) (length buffer) (omega arith)))
-
--- text that is put into a part of its own length fills it
-pub part_put : (buffer text part : List ℕ) (at k : ℕ) → k ≡ length text → at + k ≤ length buffer
-    → part ≡ put_of (take k (drop at buffer)) 0 text
-    → take at buffer ++ (part ++ drop k (drop at buffer)) ≡ put_of buffer at text
-part_put buffer text part at k e room p =
-    let mid = take k (drop at buffer) in
-    let n = length-drop at buffer in
-    let l : length mid ≡ k = length-take-le k (drop at buffer) (omega arith) in
-    let whole : part ≡ text =
-    put_next mid [] text mid part 0 refl refl p (omega arith)
-    ∙ ap (λ (rest : List ℕ). text ++ rest) (drop_of_length-le mid {i = length text} (omega arith))
-    ∙ append-nil text in
-    ap (λ (t : List ℕ). take at buffer ++ (t ++ drop k (drop at buffer))) whole ∙ filled_put buffer text at k e room
 
 pub no_room : (buffer text : List ℕ) (at : ℕ) → length buffer < at + length text → buffer ≡ put_of buffer at text
 unfolding put_of

@@ -1,7 +1,9 @@
 -- A row's line from times since 0h of its date is the line from its times since 1970. Assumes nothing.
+use Rattle.std.specs.Prelude.{Err, Ok, Result}
+use Rattle.refusals.specs.declared.Refusal.{Refusal}
 use Rattle.prelude.proofs.Logic.{◌≡◌, refl, ap, ◌∙◌, Bool, true, false, cond, List, [], ◌∷◌, ◌++◌, ℕ, ◌*◌, ◌^◌, ◌<◌, arith, lit<, ℤ, pos}
 use Rattle.prelude.proofs.Logic.{◌+ℤ◌, ◌-ℤ◌, ◌*ℤ◌}
-use Rattle.integers.proofs.Integers.{P, N, Near, floor_quot, floor_rem, floored, same, to_le, sum, difference, times}
+use Rattle.integers.proofs.Integers.{Near, floor_quot, floor_rem, floored, same, to_le, sum, difference, times}
 use Rattle.integers.specs.Ends.{least64}
 use Rattle.calendar.specs.Days.{day_number_of}
 use Rattle.calendar.specs.declared.dates.Date.{Date}
@@ -10,10 +12,8 @@ use Rattle.schedule.proofs.Starts.{start_near}
 use Rattle.schedule.specs.Each.{NearIn}
 use Rattle.schedule.specs.Times.{start_of, started_of, started_in}
 use Rattle.schedule.specs.declared.prayer_times.PrayerTimes.{PrayerTimes}
-use Rattle.schedule.specs.declared.prayer_times.Worked.{Worked}
-use Rattle.schedule.specs.declared.prayer_times.Worked.TheVariants.{Times, Refused}
 use Rattle.text.specs.Text.{ascii}
-use Rattle.lines.specs.Lines.{days_of, time_text, imsak_of, nine_of, columns_of, times_text, date_text, row_text, line_text}
+use Rattle.lines.specs.Lines.{time_text, imsak_of, nine_of, columns_of, times_text, date_text, row_text, line_text}
 use Rattle.lines.specs.Since.{epoch, row_since, line_since}
 use Rattle.lines.proofs.Moments.{on_day, since_days}
 
@@ -74,8 +74,8 @@ module _ (date : Date) where
         ∙ ap (λ (text : List ℕ). date_text date ++ text ++ ascii "\n") (times-since (columns_of ramadan t))
 
 -- ---- a line, whether the day has times or not
-pub line_since_lem : (ramadan : Ramadan) (date : Date) (w : Worked) → ramadan.imsak < 2 ^ 32 → date.year < 2 ^ 32
+pub line_since_lem : (ramadan : Ramadan) (date : Date) (w : Result PrayerTimes Refusal) → ramadan.imsak < 2 ^ 32 → date.year < 2 ^ 32
     → NearIn w → line_text ramadan date (started_in date w) ≡ line_since ramadan date w
 unfolding line_text line_since started_in NearIn
-line_since_lem ramadan date (Times t) small year near = row-since date ramadan t small year near.fajr
-line_since_lem ramadan date (Refused r) small year near = refl
+line_since_lem ramadan date (Ok t) small year near = row-since date ramadan t small year near.fajr
+line_since_lem ramadan date (Err r) small year near = refl

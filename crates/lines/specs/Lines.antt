@@ -1,5 +1,5 @@
 -- Document 01, "The sheet": the lines of a sheet, as bytes of ASCII.
-use Rattle.std.specs.Prelude.{ℕ, ◌+◌, ◌*◌, ◌/◌, ◌%◌, cond, List, [], ◌∷◌, ◌++◌, ℤ, pos, negsuc, nat_abs, ◌-ℤ◌}
+use Rattle.std.specs.Prelude.{ℕ, ◌+◌, ◌*◌, ◌/◌, ◌%◌, cond, List, [], ◌∷◌, ◌++◌, ℤ, pos, negsuc, nat_abs, ◌-ℤ◌, Err, Ok, Result}
 use Rattle.std.specs.Int.Signed.{le_z}
 use Rattle.integers.specs.Ends.{least64}
 use Rattle.integers.specs.Quotients.{floor_quot, floor_rem}
@@ -8,8 +8,6 @@ use Rattle.calendar.specs.Days.{day_number_of}
 use Rattle.hijri.specs.declared.ramadan.Ramadan.{Ramadan}
 use Rattle.refusals.specs.declared.Refusal.{Refusal}
 use Rattle.schedule.specs.declared.prayer_times.PrayerTimes.{PrayerTimes}
-use Rattle.schedule.specs.declared.prayer_times.Worked.{Worked}
-use Rattle.schedule.specs.declared.prayer_times.Worked.TheVariants.{Times, Refused}
 use Rattle.text.specs.Text.{ascii, digit_of, decimal_of}
 
 abbrev two_digits : ℕ → List ℕ
@@ -86,6 +84,6 @@ abbrev pub refused_order_text : Refusal → List ℕ
 refused_order_text r = refused_text (ascii "order") (ascii " place ") r
 
 -- ---- "a refused day prints as below and the run goes on"
-unfoldable pub line_text : Ramadan → Date → Worked → List ℕ
-line_text ramadan date (Times t) = row_text date (columns_of ramadan t)
-line_text ramadan date (Refused r) = refused_day_text date r
+unfoldable pub line_text : Ramadan → Date → Result PrayerTimes Refusal → List ℕ
+line_text ramadan date (Ok t) = row_text date (columns_of ramadan t)
+line_text ramadan date (Err r) = refused_day_text date r

@@ -15,9 +15,9 @@ fn put_number(line: &mut [u8], at: usize, word: &[u8], n: u32) -> usize
     ensures value { result ≡ at + length (number_text word.now n) }
     ensures line_after { line.new ≡ put_of line.old at (number_text word.now n) }
 {
-    put(&mut line[..], at, word);
+    put(line, at, word);
     let end = at + word.len();
-    end + put_decimal(&mut line[..], end, n as u64)
+    end + put_decimal(line, end, n as u64)
 }
 
 // Writes a refusal's line at the front of seventy bytes. Returns its length. A number has twenty digits at most.
@@ -26,10 +26,10 @@ fn make_line(line: &mut [u8], whose: &[u8], word: &[u8], refusal: Refusal) -> us
     ensures value { result ≡ length (refused_text whose.now word.now refusal) }
     ensures line_after { line.new ≡ front_of (refused_text whose.now word.now refusal) line.old }
 {
-    put(&mut line[..], 0, whose);
-    let end = put_number(&mut line[..], whose.len(), b" refused ", refusal.number);
-    let end = put_number(&mut line[..], end, word, refusal.place);
-    put(&mut line[..], end, b"\n");
+    put(line, 0, whose);
+    let end = put_number(line, whose.len(), b" refused ", refusal.number);
+    let end = put_number(line, end, word, refusal.place);
+    put(line, end, b"\n");
     end + 1
 }
 
@@ -41,7 +41,7 @@ fn put_refused(buffer: &mut [u8], at: usize, whose: &[u8], word: &[u8], refusal:
 {
     let mut line = [0u8; 70];
     let end = make_line(&mut line, whose, word, refusal);
-    put(&mut buffer[..], at, &line[..end]);
+    put(buffer, at, &line[..end]);
     end
 }
 
@@ -50,7 +50,7 @@ pub fn put_refused_day(buffer: &mut [u8], at: usize, date: Date, refusal: Refusa
     ensures value { result ≡ length (refused_day_text date refusal) }
     ensures buffer_after { buffer.new ≡ put_of buffer.old at (refused_day_text date refusal) }
 {
-    put_refused(&mut buffer[..], at, &date_text(date), b" day ", refusal)
+    put_refused(buffer, at, &date_text(date), b" day ", refusal)
 }
 
 // As `put` does. Returns the line's length.
@@ -58,5 +58,5 @@ pub fn put_refused_order(buffer: &mut [u8], at: usize, refusal: Refusal) -> usiz
     ensures value { result ≡ length (refused_order_text refusal) }
     ensures buffer_after { buffer.new ≡ put_of buffer.old at (refused_order_text refusal) }
 {
-    put_refused(&mut buffer[..], at, b"order", b" place ", refusal)
+    put_refused(buffer, at, b"order", b" place ", refusal)
 }

@@ -21,26 +21,25 @@ pub const ROW_BYTES: usize = DATE_BYTES + 9 * TIME_BYTES + 1;
 // A row of a Ramadan sheet has a time more.
 const RAMADAN_ROW_BYTES: usize = ROW_BYTES + TIME_BYTES;
 
-// The earliest instant that 64 bits hold.
-const LEAST64: i64 = -9223372036854775808;
-
 // What a full row takes, which a Ramadan sheet has imsak in.
+#[tactic(auto, unfolding(crate::specs::Lines::row_room))]
 pub fn row_bytes(ramadan: Ramadan) -> usize
     ensures { result ≡ row_room ramadan }
 {
     if ramadan.set {
-        return RAMADAN_ROW_BYTES;
+        RAMADAN_ROW_BYTES
+    } else {
+        ROW_BYTES
     }
-    ROW_BYTES
 }
 
-// So many minutes before Fajr.
+// So many minutes before Fajr, or the earliest instant that 64 bits hold.
 fn imsak(minutes: u32, fajr: i64) -> i64
     ensures { result ≡ imsak_of minutes fajr }
 {
     let seconds = minutes as i64 * 60;
-    if fajr < LEAST64 + seconds {
-        return LEAST64;
+    if fajr < i64::MIN + seconds {
+        return i64::MIN;
     }
     fajr - seconds
 }
@@ -67,15 +66,11 @@ fn fill_row(line: &mut [u8], date: Date, times: &[i64])
     requires { (length times.now ≤ 10) × (length line.old ≡ row_bytes (length times.now)) }
     ensures { line.new ≡ row_since date times.now }
 {
-    put(&mut line[..], 0, &date_text(date));
-    let mut i = 0;
-    while i < times.len() {
-        let at = DATE_BYTES + TIME_BYTES * i;
-        let end = at + TIME_BYTES;
-        put(&mut line[at..end], 0, &time_text(times[i]));
-        i = i + 1;
+    put(line, 0, &date_text(date));
+    for (i, time) in times.iter().enumerate() {
+        put(line, DATE_BYTES + TIME_BYTES * i, &time_text(*time));
     }
-    put(&mut line[..], DATE_BYTES + TIME_BYTES * i, b"\n");
+    put(line, DATE_BYTES + TIME_BYTES * times.len(), b"\n");
 }
 
 // The line is written in its place, once the buffer is known to have room for all of it.
@@ -109,7 +104,7 @@ pub fn put_row(
 {
     let ten = ten(imsak(ramadan.imsak, times.fajr), times);
     if ramadan.set {
-        return put_columns(&mut buffer[..], at, date, &ten);
+        return put_columns(buffer, at, date, &ten);
     }
-    put_columns(&mut buffer[..], at, date, &ten[1..])
+    put_columns(buffer, at, date, &ten[1..])
 }

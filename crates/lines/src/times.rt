@@ -8,7 +8,6 @@ ghost use Rattle.lines.specs.Since.{epoch};
 
 use calendar::dates::Date;
 use calendar::instants::{day_of, second_of_day};
-use integers::parts::{above, below};
 use text::decimal::digit;
 
 pub fn date_text(date: Date) -> [u8; 10]
@@ -37,12 +36,6 @@ fn sign(days: i64) -> u8
     if days < 0 { b'-' } else { b'+' }
 }
 
-fn size(days: i64) -> u64
-    ensures { result ≡ nat_abs days }
-{
-    above(days) + below(days)
-}
-
 // A time by the sign and the digit of its days, and the second of its day.
 #[derive(Clone, Copy)]
 struct Moment {
@@ -59,7 +52,7 @@ fn divided(time: i64) -> Moment
     let days = day_of(time);
     Moment {
         sign: sign(days),
-        days: digit(size(days)),
+        days: digit(days.unsigned_abs()),
         second: second_of_day(time),
     }
 }

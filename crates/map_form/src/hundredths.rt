@@ -22,7 +22,7 @@ pub(crate) fn nearest(x: f64) -> u64
     requires { at_most 180 x ≡ true }
     ensures { (result ≡ hundredths_of x) × (result ≤ 64800000) }
 {
-    let b = f64::to_bits(x) % SIGN;
+    let b = x.to_bits() % SIGN;
     let e = b / LEADING;
     if e < 1000 {
         return 0;

@@ -1,6 +1,8 @@
 // A coordinate as on the map (added): a sign, degrees, minutes, seconds and hundredths of a second, to degrees as an f64 and back.
 #![tactic(auto)]
 
+ghost use Rattle.std.specs.Prelude.{◌≤◌};
+
 mod hundredths;
 pub mod reading;
 pub mod writing;
@@ -9,11 +11,6 @@ pub mod writing;
 pub const LATITUDE: u32 = 18;
 
 pub const LONGITUDE: u32 = 19;
-
-// The most degrees that each may have, north or south, east or west.
-const MOST_LATITUDE: u64 = 90;
-
-const MOST_LONGITUDE: u64 = 180;
 
 // Hundredths of a second in a degree.
 const IN_DEGREE: u64 = 360000;
@@ -27,4 +24,25 @@ pub struct MapForm {
     pub minutes: u32,
     pub seconds: u32,
     pub hundredths: u32,
+}
+
+// A coordinate: its tag, and the most degrees that it may have, north or south, east or west. A degree of more than 180 would need more
+// hundredths than the writer counts.
+#[derive(Clone, Copy)]
+pub(crate) struct Coordinate {
+    tag: u32,
+    most: u64,
+    ghost small: { most ≤ 180 },
+}
+
+impl Coordinate {
+    const LATITUDE: Coordinate = Coordinate {
+        tag: LATITUDE,
+        most: 90,
+    };
+
+    const LONGITUDE: Coordinate = Coordinate {
+        tag: LONGITUDE,
+        most: 180,
+    };
 }

@@ -1,5 +1,7 @@
 -- The marked cases of the definitions, in one table. Each row is a test. One statement says that all of them hold, and antt computes it.
-use Rattle.std.specs.Prelude.{Bool, true, false, ◌&&◌, List, [], ◌∷◌, T, eqb, ℤ, pos, negsuc, ℕ, Float}
+use Rattle.schedule.specs.declared.in_force.HoursMinutes.{HoursMinutes}
+use Rattle.models.specs.declared.prayer.Prayer.{Prayer}
+use Rattle.std.specs.Prelude.{Bool, true, false, ◌&&◌, List, [], ◌∷◌, T, eqb, ℤ, pos, negsuc, ℕ, Float, None, Option, Some}
 use Rattle.std.specs.Int.Signed.{le_z}
 use Rattle.std.specs.Float.{nan, binary64}
 use Rattle.std.specs.Float.Ieee.{eq, le, lt, add, sub, mul, div, neg, round, of_int, of_bits, to_signed, to_unsigned}
@@ -10,18 +12,12 @@ use Rattle.julian.specs.Julian.{date_julian_day_of, julian_day_of, from_march_of
 use Rattle.float64.specs.Sizes.{is_normal_of}
 use Rattle.float64.specs.Whole.{floor_of, trunc_of, round_of}
 use Rattle.models.specs.Numbers.{prayer_number_of, prayer_of}
-use Rattle.schedule.specs.declared.in_force.Current.{Current}
-use Rattle.schedule.specs.declared.in_force.Current.TheVariants as current
 use Rattle.schedule.specs.declared.in_force.Instant.{Instant}
-use Rattle.schedule.specs.declared.in_force.Remaining.{Remaining}
-use Rattle.schedule.specs.declared.in_force.Remaining.TheVariants as remaining
 use Rattle.schedule.specs.declared.prayer_times.PrayerTimes.{PrayerTimes}
 use Rattle.schedule.specs.InForce.{time_of, nanoseconds_of, ahead_of, last_of, current_time_of, following_current_of, next_of}
 use Rattle.schedule.specs.InForce.{hours_minutes_of, until_of, time_remaining_of}
 use Rattle.models.specs.declared.rules.Southern.TheVariants.{StartsAgain}
 use Rattle.ops.specs.Season.{days_since_solstice_of, southern_offset_of, southern_count_of, days_by_rule}
-use Rattle.solar.specs.declared.setting.SolarHour.{SolarHour}
-use Rattle.solar.specs.declared.setting.SolarHour.TheVariants.{Some, Nothing}
 use Rattle.solar.specs.Setting.{setting_hour_of, hour_of, hour_adjustment_of, minute_of}
 use Rattle.solar.specs.PastMidnight.{has_time_of, carried_of, carried_hour_of}
 
@@ -37,13 +33,13 @@ abbrev south_again : ℕ → ℕ → ℕ → Bool
 south_again day year count = eqb (days_by_rule StartsAgain south day year) count
 
 -- an hour number that gives a time, in seconds from 0h of the date, and one that gives none
-abbrev gives : SolarHour → ℤ → Bool
+abbrev gives : Option ℤ → ℤ → Bool
 gives (Some s) t = le_z s t && le_z t s
-gives Nothing t = false
+gives None t = false
 
-abbrev misses : SolarHour → Bool
+abbrev misses : Option ℤ → Bool
 misses (Some s) = false
-misses Nothing = true
+misses None = true
 
 -- eight times, from 4000 on and 4000 seconds apart, and the middle of the night, which is no prayer
 abbrev times : PrayerTimes
@@ -64,13 +60,13 @@ abbrev instant : ℕ → ℕ → Instant
 instant seconds nanoseconds = record { seconds = pos seconds; nanoseconds = nanoseconds }
 
 -- whether this is the n-th prayer of the list, or none if n is 0
-abbrev is_numbered : Current → ℕ → Bool
-is_numbered (current.Some prayer) n = eqb (prayer_number_of prayer) n
-is_numbered current.Nothing n = eqb n 0
+abbrev is_numbered : Option Prayer → ℕ → Bool
+is_numbered (Some prayer) n = eqb (prayer_number_of prayer) n
+is_numbered None n = eqb n 0
 
-abbrev lasts : Remaining → ℕ → ℕ → Bool
-lasts (remaining.Some r) hours minutes = eqb r.hours hours && eqb r.minutes minutes
-lasts remaining.Nothing hours minutes = false
+abbrev lasts : Option HoursMinutes → ℕ → ℕ → Bool
+lasts (Some r) hours minutes = eqb r.hours hours && eqb r.minutes minutes
+lasts None hours minutes = false
 
 unfoldable pub marked : List Bool
 marked =

@@ -1,4 +1,1 @@
 pub mod Models
-pub mod NumbersLaws
-pub mod Rows
-pub mod Wide

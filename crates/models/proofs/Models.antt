@@ -1,5 +1,4 @@
 -- The names that the proofs of this crate and of the crates above use, in one place. Nothing is added.
-pub use Rattle.models.proofs.Rows.{inside, beyond, second}
 unfoldable pub use Rattle.models.specs.Builder.{set_isha_interval}
 pub use Rattle.models.specs.Minutes.{no_minutes}
 unfoldable pub use Rattle.models.specs.Numbers.{method_of, rounding_number_of, rounding_of, shafaq_number_of, shafaq_of, madhab_number_of}

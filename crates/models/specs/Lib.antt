@@ -1,4 +1,5 @@
 pub mod Numbers
+pub mod NumbersLaws
 pub mod Names
 pub mod Minutes
 pub mod Recommended

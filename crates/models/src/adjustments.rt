@@ -34,18 +34,20 @@ impl TimeAdjustment {
         ensures { result ≡ six_minutes_of fajr sunrise dhuhr asr maghrib isha }
     {
         TimeAdjustment {
-            fajr: fajr,
-            sunrise: sunrise,
-            dhuhr: dhuhr,
-            asr: asr,
-            maghrib: maghrib,
-            isha: isha,
+            fajr,
+            sunrise,
+            dhuhr,
+            asr,
+            maghrib,
+            isha,
         }
     }
+}
 
-    pub fn default() -> TimeAdjustment
-        ensures { result ≡ no_minutes }
-    {
+impl Default for TimeAdjustment {
+    ghost is_default = { λ m. m ≡ no_minutes };
+
+    fn default() -> TimeAdjustment {
         TimeAdjustment::NONE
     }
 }
@@ -65,58 +67,46 @@ impl Adjustment {
         }
     }
 
-    pub fn fajr(self, fajr: i32) -> Adjustment
-        ensures { result
-            ≡ builder_of (six_minutes_of fajr self.minutes.sunrise self.minutes.dhuhr self.minutes.asr self.minutes.maghrib self.minutes.isha) }
+    pub fn fajr(mut self, fajr: i32) -> Adjustment
+        ensures { result ≡ builder_of (record self.minutes { fajr = fajr }) }
     {
-        let mut minutes = self.minutes;
-        minutes.fajr = fajr;
-        Adjustment { minutes: minutes }
+        self.minutes.fajr = fajr;
+        self
     }
 
-    pub fn sunrise(self, sunrise: i32) -> Adjustment
-        ensures { result
-            ≡ builder_of (six_minutes_of self.minutes.fajr sunrise self.minutes.dhuhr self.minutes.asr self.minutes.maghrib self.minutes.isha) }
+    pub fn sunrise(mut self, sunrise: i32) -> Adjustment
+        ensures { result ≡ builder_of (record self.minutes { sunrise = sunrise }) }
     {
-        let mut minutes = self.minutes;
-        minutes.sunrise = sunrise;
-        Adjustment { minutes: minutes }
+        self.minutes.sunrise = sunrise;
+        self
     }
 
-    pub fn dhuhr(self, dhuhr: i32) -> Adjustment
-        ensures { result
-            ≡ builder_of (six_minutes_of self.minutes.fajr self.minutes.sunrise dhuhr self.minutes.asr self.minutes.maghrib self.minutes.isha) }
+    pub fn dhuhr(mut self, dhuhr: i32) -> Adjustment
+        ensures { result ≡ builder_of (record self.minutes { dhuhr = dhuhr }) }
     {
-        let mut minutes = self.minutes;
-        minutes.dhuhr = dhuhr;
-        Adjustment { minutes: minutes }
+        self.minutes.dhuhr = dhuhr;
+        self
     }
 
-    pub fn asr(self, asr: i32) -> Adjustment
-        ensures { result
-            ≡ builder_of (six_minutes_of self.minutes.fajr self.minutes.sunrise self.minutes.dhuhr asr self.minutes.maghrib self.minutes.isha) }
+    pub fn asr(mut self, asr: i32) -> Adjustment
+        ensures { result ≡ builder_of (record self.minutes { asr = asr }) }
     {
-        let mut minutes = self.minutes;
-        minutes.asr = asr;
-        Adjustment { minutes: minutes }
+        self.minutes.asr = asr;
+        self
     }
 
-    pub fn maghrib(self, maghrib: i32) -> Adjustment
-        ensures { result
-            ≡ builder_of (six_minutes_of self.minutes.fajr self.minutes.sunrise self.minutes.dhuhr self.minutes.asr maghrib self.minutes.isha) }
+    pub fn maghrib(mut self, maghrib: i32) -> Adjustment
+        ensures { result ≡ builder_of (record self.minutes { maghrib = maghrib }) }
     {
-        let mut minutes = self.minutes;
-        minutes.maghrib = maghrib;
-        Adjustment { minutes: minutes }
+        self.minutes.maghrib = maghrib;
+        self
     }
 
-    pub fn isha(self, isha: i32) -> Adjustment
-        ensures { result
-            ≡ builder_of (six_minutes_of self.minutes.fajr self.minutes.sunrise self.minutes.dhuhr self.minutes.asr self.minutes.maghrib isha) }
+    pub fn isha(mut self, isha: i32) -> Adjustment
+        ensures { result ≡ builder_of (record self.minutes { isha = isha }) }
     {
-        let mut minutes = self.minutes;
-        minutes.isha = isha;
-        Adjustment { minutes: minutes }
+        self.minutes.isha = isha;
+        self
     }
 
     pub fn done(self) -> TimeAdjustment

@@ -1,8 +1,10 @@
 // high_altitude_rule.rs: how Fajr and Isha are bounded when the night is short.
 ghost use Rattle.std.specs.Prelude.{◌≡◌};
 ghost use Rattle.models.specs.Numbers.{rule_number_of, rule_of};
+ghost use Rattle.models.specs.NumbersLaws.{rule_back};
 ghost use Rattle.models.specs.Recommended.{recommended_of};
 
+use super::numbered::Numbered;
 use unit::Coordinates;
 
 #[derive(Clone, Copy)]
@@ -25,33 +27,25 @@ impl HighLatitudeRule {
             HighLatitudeRule::MiddleOfTheNight
         }
     }
+}
 
-    // The number by which an order names it.
-    pub fn number(self) -> u32
-        ensures { result ≡ rule_number_of self }
-    {
-        match self {
-            HighLatitudeRule::MiddleOfTheNight => 0,
-            HighLatitudeRule::SeventhOfTheNight => 1,
-            HighLatitudeRule::TwilightAngle => 2,
-        }
+impl Numbered for HighLatitudeRule {
+    ghost number_of = { rule_number_of };
+
+    ghost case_of = { rule_of };
+
+    ghost back = { rule_back };
+
+    fn number(self) -> u32 {
+        self as u32
     }
 
-    // The cases by number.
-    pub const BY_NUMBER: [HighLatitudeRule; 3] = [
-        HighLatitudeRule::MiddleOfTheNight,
-        HighLatitudeRule::SeventhOfTheNight,
-        HighLatitudeRule::TwilightAngle,
-    ];
-
-    // Inverse of `number`. Any other number gives the last case.
-    pub fn of_number(n: u32) -> HighLatitudeRule
-        ensures { result ≡ rule_of n }
-    {
-        if n < 3 {
-            HighLatitudeRule::BY_NUMBER[n as usize]
-        } else {
-            HighLatitudeRule::TwilightAngle
+    #[tactic(auto, unfolding(crate::specs::Numbers::rule_of))]
+    fn of_number(n: u32) -> HighLatitudeRule {
+        match n {
+            0 => HighLatitudeRule::MiddleOfTheNight,
+            1 => HighLatitudeRule::SeventhOfTheNight,
+            _ => HighLatitudeRule::TwilightAngle,
         }
     }
 }

@@ -5,6 +5,7 @@ pub mod adjustments;
 pub mod high_altitude_rule;
 pub mod madhab;
 pub mod method;
+pub mod numbered;
 pub mod parameters;
 pub mod prayer;
 pub mod rounding;

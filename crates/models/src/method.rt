@@ -1,12 +1,14 @@
 // method.rs: the presets of the authorities.
 ghost use Rattle.std.specs.Prelude.{◌≡◌, get_or};
-ghost use Rattle.std.specs.Float.{nan};
+ghost use Rattle.std.specs.Float.Ieee.{nan};
 ghost use Rattle.models.specs.Numbers.{method_number_of, method_of};
+ghost use Rattle.models.specs.NumbersLaws.{method_back};
 ghost use Rattle.models.specs.Builder.{configuration_of, set_method, set_method_adjustments};
 ghost use Rattle.models.specs.Settings.{parameters_new_of};
 ghost use Rattle.models.specs.Presets.{preset_of};
 
 use super::adjustments::TimeAdjustment;
+use super::numbered::Numbered;
 use super::parameters::{Configuration, Parameters};
 use super::rounding::Rounding;
 
@@ -114,55 +116,6 @@ impl Method {
         isha: 0,
     };
 
-    // The number by which an order names it.
-    pub fn number(self) -> u32
-        ensures { result ≡ method_number_of self }
-    {
-        match self {
-            Method::MuslimWorldLeague => 0,
-            Method::Egyptian => 1,
-            Method::Karachi => 2,
-            Method::UmmAlQura => 3,
-            Method::Dubai => 4,
-            Method::MoonsightingCommittee => 5,
-            Method::NorthAmerica => 6,
-            Method::Kuwait => 7,
-            Method::Qatar => 8,
-            Method::Singapore => 9,
-            Method::Tehran => 10,
-            Method::Turkey => 11,
-            Method::Other => 12,
-        }
-    }
-
-    // The cases by number.
-    pub const BY_NUMBER: [Method; 13] = [
-        Method::MuslimWorldLeague,
-        Method::Egyptian,
-        Method::Karachi,
-        Method::UmmAlQura,
-        Method::Dubai,
-        Method::MoonsightingCommittee,
-        Method::NorthAmerica,
-        Method::Kuwait,
-        Method::Qatar,
-        Method::Singapore,
-        Method::Tehran,
-        Method::Turkey,
-        Method::Other,
-    ];
-
-    // Inverse of `number`. Any other number gives the last case.
-    pub fn of_number(n: u32) -> Method
-        ensures { result ≡ method_of n }
-    {
-        if n < 13 {
-            Method::BY_NUMBER[n as usize]
-        } else {
-            Method::Other
-        }
-    }
-
     fn preset(self, angles: [f64; 2], minutes: TimeAdjustment) -> Configuration
         ensures { result
             ≡ set_method_adjustments (set_method (configuration_of (parameters_new_of (get_or angles 0 nan) (get_or angles 1 nan))) self) minutes }
@@ -215,5 +168,36 @@ impl Method {
         ensures { result ≡ preset_of self }
     {
         self.configuration().done()
+    }
+}
+
+impl Numbered for Method {
+    ghost number_of = { method_number_of };
+
+    ghost case_of = { method_of };
+
+    ghost back = { method_back };
+
+    fn number(self) -> u32 {
+        self as u32
+    }
+
+    #[tactic(auto, unfolding(crate::specs::Numbers::method_of))]
+    fn of_number(n: u32) -> Method {
+        match n {
+            0 => Method::MuslimWorldLeague,
+            1 => Method::Egyptian,
+            2 => Method::Karachi,
+            3 => Method::UmmAlQura,
+            4 => Method::Dubai,
+            5 => Method::MoonsightingCommittee,
+            6 => Method::NorthAmerica,
+            7 => Method::Kuwait,
+            8 => Method::Qatar,
+            9 => Method::Singapore,
+            10 => Method::Tehran,
+            11 => Method::Turkey,
+            _ => Method::Other,
+        }
     }
 }

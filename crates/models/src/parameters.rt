@@ -2,7 +2,7 @@
 ghost use Rattle.std.specs.Prelude.{◌≡◌, ◌^◌, ◌+ℤ◌};
 ghost use Rattle.integers.specs.Parts.{Near};
 ghost use Rattle.models.specs.Settings.{parameters_new_of, night_portions_of, minutes_for, time_adjustments_of};
-ghost use Rattle.models.specs.Builder.{configuration_of, chosen_of, set_method, set_method_adjustments, set_high_latitude_rule, set_madhab};
+ghost use Rattle.models.specs.Builder.{configuration_of, set_method, set_method_adjustments, set_high_latitude_rule, set_madhab};
 ghost use Rattle.models.specs.Builder.{set_isha_interval, set_maghrib_angle, set_rounding, set_shafaq};
 ghost use Rattle.models.specs.Presets.{with_of};
 
@@ -33,10 +33,11 @@ pub struct Parameters {
 fn sum(a: i32, b: i32) -> i64
     ensures { result ≡ a +ℤ b }
 {
-    a as i64 + b as i64
+    i64::from(a) + i64::from(b)
 }
 
 // A prayer's minutes of one kind, its own or the method's. Qiyam and tomorrow's Fajr have none.
+#[tactic(auto, unfolding(crate::specs::Settings::minutes_for))]
 fn minutes_for(prayer: Prayer, minutes: TimeAdjustment) -> i32
     ensures { result ≡ minutes_for prayer minutes }
 {
@@ -47,8 +48,7 @@ fn minutes_for(prayer: Prayer, minutes: TimeAdjustment) -> i32
         Prayer::Asr => minutes.asr,
         Prayer::Maghrib => minutes.maghrib,
         Prayer::Isha => minutes.isha,
-        Prayer::Qiyam => 0,
-        Prayer::FajrTomorrow => 0,
+        Prayer::Qiyam | Prayer::FajrTomorrow => 0,
     }
 }
 
@@ -76,14 +76,15 @@ impl Parameters {
 
     pub const SHAFAQ: Shafaq = Shafaq::General;
 
+    #[tactic(auto, unfolding(crate::specs::Settings::parameters_new_of, float64::specs::Ops::dec))]
     pub fn new(fajr_angle: f64, isha_angle: f64) -> Parameters
         ensures { result ≡ parameters_new_of fajr_angle isha_angle }
     {
         Parameters {
-            fajr_angle: fajr_angle,
-            maghrib_angle: Self::MAGHRIB_ANGLE,
-            isha_angle: isha_angle,
             method: Self::METHOD,
+            fajr_angle,
+            maghrib_angle: Self::MAGHRIB_ANGLE,
+            isha_angle,
             isha_interval: Self::ISHA_INTERVAL,
             madhab: Self::MADHAB,
             high_latitude_rule: Self::HIGH_LATITUDE_RULE,
@@ -94,40 +95,11 @@ impl Parameters {
         }
     }
 
-    // These parameters with the given choices. The numbers stay.
-    fn choosing(
-        self,
-        method: Method,
-        madhab: Madhab,
-        high_latitude_rule: HighLatitudeRule,
-        rounding: Rounding,
-        shafaq: Shafaq,
-    ) -> Parameters
-        ensures { result ≡ chosen_of self method madhab high_latitude_rule rounding shafaq }
-    {
-        let adjustments = self.adjustments;
-        let method_adjustments = self.method_adjustments;
-        Parameters {
-            method: method,
-            fajr_angle: self.fajr_angle,
-            maghrib_angle: self.maghrib_angle,
-            isha_angle: self.isha_angle,
-            isha_interval: self.isha_interval,
-            madhab: madhab,
-            high_latitude_rule: high_latitude_rule,
-            adjustments: adjustments,
-            method_adjustments: method_adjustments,
-            rounding: rounding,
-            shafaq: shafaq,
-        }
-    }
-
     // The portions of the night that bound Fajr and Isha.
     pub fn night_portions(self) -> NightPortions
         ensures { result ≡ night_portions_of self }
     {
-        let rule = self.high_latitude_rule;
-        match rule {
+        match self.high_latitude_rule {
             HighLatitudeRule::MiddleOfTheNight => NightPortions {
                 fajr: 1.0 / 2.0,
                 isha: 1.0 / 2.0,
@@ -147,9 +119,10 @@ impl Parameters {
     pub fn time_adjustments(self, prayer: Prayer) -> i64
         ensures { (result ≡ time_adjustments_of self prayer) × Near (2 ^ 32) result }
     {
-        let own = self.adjustments;
-        let preset = self.method_adjustments;
-        sum(minutes_for(prayer, own), minutes_for(prayer, preset))
+        sum(
+            minutes_for(prayer, self.adjustments),
+            minutes_for(prayer, self.method_adjustments),
+        )
     }
 }
 
@@ -168,95 +141,63 @@ impl Configuration {
         }
     }
 
-    pub fn method(self, value: Method) -> Configuration
-        ensures { result ≡ set_method self value }
+    pub fn method(mut self, method: Method) -> Configuration
+        ensures { result ≡ set_method self method }
     {
-        let p = self.parameters;
-        let madhab = p.madhab;
-        let high_latitude_rule = p.high_latitude_rule;
-        let rounding = p.rounding;
-        let shafaq = p.shafaq;
-        Configuration {
-            parameters: p.choosing(value, madhab, high_latitude_rule, rounding, shafaq),
-        }
+        self.parameters.method = method;
+        self
     }
 
-    pub fn method_adjustments(self, method_adjustments: TimeAdjustment) -> Configuration
+    pub fn method_adjustments(mut self, method_adjustments: TimeAdjustment) -> Configuration
         ensures { result ≡ set_method_adjustments self method_adjustments }
     {
-        let mut p = self.parameters;
-        p.method_adjustments = method_adjustments;
-        Configuration { parameters: p }
+        self.parameters.method_adjustments = method_adjustments;
+        self
     }
 
-    pub fn high_latitude_rule(self, value: HighLatitudeRule) -> Configuration
-        ensures { result ≡ set_high_latitude_rule self value }
+    pub fn high_latitude_rule(mut self, high_latitude_rule: HighLatitudeRule) -> Configuration
+        ensures { result ≡ set_high_latitude_rule self high_latitude_rule }
     {
-        let p = self.parameters;
-        let method = p.method;
-        let madhab = p.madhab;
-        let rounding = p.rounding;
-        let shafaq = p.shafaq;
-        Configuration {
-            parameters: p.choosing(method, madhab, value, rounding, shafaq),
-        }
+        self.parameters.high_latitude_rule = high_latitude_rule;
+        self
     }
 
-    pub fn madhab(self, value: Madhab) -> Configuration
-        ensures { result ≡ set_madhab self value }
+    pub fn madhab(mut self, madhab: Madhab) -> Configuration
+        ensures { result ≡ set_madhab self madhab }
     {
-        let p = self.parameters;
-        let method = p.method;
-        let high_latitude_rule = p.high_latitude_rule;
-        let rounding = p.rounding;
-        let shafaq = p.shafaq;
-        Configuration {
-            parameters: p.choosing(method, value, high_latitude_rule, rounding, shafaq),
-        }
+        self.parameters.madhab = madhab;
+        self
     }
 
     // An interval takes the place of the Isha angle.
-    pub fn isha_interval(self, isha_interval: i32) -> Configuration
+    #[tactic(auto, unfolding(crate::specs::Builder::set_isha_interval, float64::specs::Ops::dec))]
+    pub fn isha_interval(mut self, isha_interval: i32) -> Configuration
         ensures { result ≡ set_isha_interval self isha_interval }
     {
-        let mut p = self.parameters;
-        p.isha_angle = 0.0;
-        p.isha_interval = isha_interval;
-        Configuration { parameters: p }
+        self.parameters.isha_angle = 0.0;
+        self.parameters.isha_interval = isha_interval;
+        self
     }
 
-    pub fn maghrib_angle(self, angle: f64) -> Configuration
+    pub fn maghrib_angle(mut self, angle: f64) -> Configuration
         ensures { result ≡ set_maghrib_angle self angle }
     {
-        let mut p = self.parameters;
-        p.maghrib_angle = angle;
-        Configuration { parameters: p }
+        self.parameters.maghrib_angle = angle;
+        self
     }
 
-    pub fn rounding(self, value: Rounding) -> Configuration
-        ensures { result ≡ set_rounding self value }
+    pub fn rounding(mut self, rounding: Rounding) -> Configuration
+        ensures { result ≡ set_rounding self rounding }
     {
-        let p = self.parameters;
-        let method = p.method;
-        let madhab = p.madhab;
-        let high_latitude_rule = p.high_latitude_rule;
-        let shafaq = p.shafaq;
-        Configuration {
-            parameters: p.choosing(method, madhab, high_latitude_rule, value, shafaq),
-        }
+        self.parameters.rounding = rounding;
+        self
     }
 
-    pub fn shafaq(self, value: Shafaq) -> Configuration
-        ensures { result ≡ set_shafaq self value }
+    pub fn shafaq(mut self, shafaq: Shafaq) -> Configuration
+        ensures { result ≡ set_shafaq self shafaq }
     {
-        let p = self.parameters;
-        let method = p.method;
-        let madhab = p.madhab;
-        let high_latitude_rule = p.high_latitude_rule;
-        let rounding = p.rounding;
-        Configuration {
-            parameters: p.choosing(method, madhab, high_latitude_rule, rounding, value),
-        }
+        self.parameters.shafaq = shafaq;
+        self
     }
 
     pub fn done(self) -> Parameters
@@ -266,14 +207,13 @@ impl Configuration {
     }
 
     // A method's preset with another madhab.
+    #[tactic(auto, unfolding(crate::specs::Presets::with_of))]
     pub fn with(method: Method, madhab: Madhab) -> Parameters
         ensures { result ≡ with_of method madhab }
     {
-        let p = method.parameters();
-        let method = p.method;
-        let high_latitude_rule = p.high_latitude_rule;
-        let rounding = p.rounding;
-        let shafaq = p.shafaq;
-        p.choosing(method, madhab, high_latitude_rule, rounding, shafaq)
+        Parameters {
+            madhab,
+            ..method.parameters()
+        }
     }
 }

@@ -1,7 +1,10 @@
 // The rules that an order may choose in place of the source's (added). They are kept apart from Parameters, which stay the source's own.
 ghost use Rattle.std.specs.Prelude.{◌≡◌};
 ghost use Rattle.models.specs.Numbers.{midnight_number_of, midnight_of, southern_number_of, southern_of};
+ghost use Rattle.models.specs.NumbersLaws.{midnight_back, southern_back};
 ghost use Rattle.models.specs.Chosen.{source_rules};
+
+use super::numbered::Numbered;
 
 // What an hour number that rounds to hour 24 gives.
 #[derive(Clone, Copy)]
@@ -12,21 +15,19 @@ pub enum Midnight {
     Carries,
 }
 
-impl Midnight {
-    // The number by which an order names it.
-    pub fn number(self) -> u32
-        ensures { result ≡ midnight_number_of self }
-    {
-        match self {
-            Midnight::Stops => 0,
-            Midnight::Carries => 1,
-        }
+impl Numbered for Midnight {
+    ghost number_of = { midnight_number_of };
+
+    ghost case_of = { midnight_of };
+
+    ghost back = { midnight_back };
+
+    fn number(self) -> u32 {
+        self as u32
     }
 
-    // Inverse of `number`. Any other number gives the last case.
-    pub fn of_number(n: u32) -> Midnight
-        ensures { result ≡ midnight_of n }
-    {
+    #[tactic(auto, unfolding(crate::specs::Numbers::midnight_of))]
+    fn of_number(n: u32) -> Midnight {
         match n {
             0 => Midnight::Stops,
             _ => Midnight::Carries,
@@ -43,21 +44,19 @@ pub enum Southern {
     StartsAgain,
 }
 
-impl Southern {
-    // The number by which an order names it.
-    pub fn number(self) -> u32
-        ensures { result ≡ southern_number_of self }
-    {
-        match self {
-            Southern::Unreduced => 0,
-            Southern::StartsAgain => 1,
-        }
+impl Numbered for Southern {
+    ghost number_of = { southern_number_of };
+
+    ghost case_of = { southern_of };
+
+    ghost back = { southern_back };
+
+    fn number(self) -> u32 {
+        self as u32
     }
 
-    // Inverse of `number`. Any other number gives the last case.
-    pub fn of_number(n: u32) -> Southern
-        ensures { result ≡ southern_of n }
-    {
+    #[tactic(auto, unfolding(crate::specs::Numbers::southern_of))]
+    fn of_number(n: u32) -> Southern {
         match n {
             0 => Southern::Unreduced,
             _ => Southern::StartsAgain,

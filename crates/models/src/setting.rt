@@ -18,12 +18,9 @@ impl Setting {
     pub fn season(self) -> Season
         ensures { result ≡ season_of self }
     {
-        let coordinates = self.coordinates;
-        let rules = self.rules;
-        let southern = rules.southern;
         Season {
-            latitude: coordinates.latitude,
-            southern: southern,
+            latitude: self.coordinates.latitude,
+            southern: self.rules.southern,
         }
     }
 }

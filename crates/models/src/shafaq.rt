@@ -1,6 +1,8 @@
 // shafaq.rs: the twilight glow that sets Isha in the MoonsightingCommittee method.
-ghost use Rattle.std.specs.Prelude.{◌≡◌};
 ghost use Rattle.models.specs.Numbers.{shafaq_number_of, shafaq_of};
+ghost use Rattle.models.specs.NumbersLaws.{shafaq_back};
+
+use super::numbered::Numbered;
 
 #[derive(Clone, Copy)]
 pub enum Shafaq {
@@ -12,29 +14,23 @@ pub enum Shafaq {
     Abyad,
 }
 
-impl Shafaq {
-    // The number by which an order names it.
-    pub fn number(self) -> u32
-        ensures { result ≡ shafaq_number_of self }
-    {
-        match self {
-            Shafaq::General => 0,
-            Shafaq::Ahmer => 1,
-            Shafaq::Abyad => 2,
-        }
+impl Numbered for Shafaq {
+    ghost number_of = { shafaq_number_of };
+
+    ghost case_of = { shafaq_of };
+
+    ghost back = { shafaq_back };
+
+    fn number(self) -> u32 {
+        self as u32
     }
 
-    // The cases by number.
-    pub const BY_NUMBER: [Shafaq; 3] = [Shafaq::General, Shafaq::Ahmer, Shafaq::Abyad];
-
-    // Inverse of `number`. Any other number gives the last case.
-    pub fn of_number(n: u32) -> Shafaq
-        ensures { result ≡ shafaq_of n }
-    {
-        if n < 3 {
-            Shafaq::BY_NUMBER[n as usize]
-        } else {
-            Shafaq::Abyad
+    #[tactic(auto, unfolding(crate::specs::Numbers::shafaq_of))]
+    fn of_number(n: u32) -> Shafaq {
+        match n {
+            0 => Shafaq::General,
+            1 => Shafaq::Ahmer,
+            _ => Shafaq::Abyad,
         }
     }
 }

@@ -1,4 +1,12 @@
 // schedule.rs: portions of a night, cut toward zero to whole seconds, also when the night is negative.
+#![tactic(auto, unfolding(
+// A literal of the code is the decimal of the formula, and two thirds are a constant.
+float64::proofs::Floats::dec, float64::proofs::Floats::div, float64::proofs::Floats::round, float64::proofs::Floats::of_bits,
+// What is added at the night's ends.
+crate::specs::Portions::portion_after_of, crate::specs::Portions::portion_before_of,
+// What is added to maghrib.
+crate::specs::Portions::middle_of, crate::specs::Portions::last_third_of))]
+
 ghost use Rattle.std.specs.Prelude.{◌≡◌};
 ghost use Rattle.std.specs.Float.{binary64};
 ghost use Rattle.std.specs.Float.Ieee.{of_int};
@@ -8,9 +16,9 @@ use float64::casts::to_i64;
 use std::num::nearest_i64_to_f64;
 
 // From -2^53 to 2^53 every whole number is a float.
-const LEAST_EXACT: i64 = -9007199254740992;
+const LEAST_EXACT: i64 = -(1 << 53);
 
-const MOST_EXACT: i64 = 9007199254740992;
+const MOST_EXACT: i64 = 1 << 53;
 
 // The source's `2.0 / 3.0`.
 const TWO_THIRDS: f64 = 2.0 / 3.0;
@@ -19,28 +27,25 @@ const TWO_THIRDS: f64 = 2.0 / 3.0;
 fn to_float(seconds: i64) -> f64
     ensures { result ≡ of_int binary64 seconds }
 {
-    if LEAST_EXACT <= seconds {
-        if seconds <= MOST_EXACT {
-            return seconds as f64;
-        }
+    if LEAST_EXACT <= seconds && seconds <= MOST_EXACT {
+        seconds as f64
+    } else {
+        nearest_i64_to_f64(seconds)
     }
-    nearest_i64_to_f64(seconds)
 }
 
 // What Isha's bound adds to sunset.
 pub fn portion_after(portion: f64, night: i64) -> i64
     ensures { result ≡ portion_after_of portion night }
 {
-    let night_fraction = portion * to_float(night);
-    to_i64(night_fraction)
+    to_i64(portion * to_float(night))
 }
 
 // What Fajr's bound adds to sunrise: the negated portion is cut.
 pub fn portion_before(portion: f64, night: i64) -> i64
     ensures { result ≡ portion_before_of portion night }
 {
-    let night_fraction = portion * to_float(night);
-    to_i64(-night_fraction)
+    to_i64(-(portion * to_float(night)))
 }
 
 // A seventh in whole numbers, which the MoonsightingCommittee method uses from latitude 55 on.
@@ -54,14 +59,12 @@ pub fn seventh(night: i64) -> i64
 pub fn middle(night: i64) -> i64
     ensures { result ≡ middle_of night }
 {
-    let night_duration = to_float(night);
-    to_i64(night_duration / 2.0)
+    to_i64(to_float(night) / 2.0)
 }
 
 // The seconds from maghrib to the last third of the same night.
 pub fn last_third(night: i64) -> i64
     ensures { result ≡ last_third_of night }
 {
-    let night_duration = to_float(night);
-    to_i64(night_duration * TWO_THIRDS)
+    to_i64(to_float(night) * TWO_THIRDS)
 }

@@ -1,4 +1,12 @@
 // solar.rs: the sun's position at 0h of a day. It is in this crate since a course is made from three positions.
+#![tactic(auto, unfolding(
+// A literal of the code is the decimal of the formula.
+float64::proofs::Floats::dec, float64::proofs::Floats::round, float64::proofs::Floats::of_bits,
+// The place.
+crate::specs::Coordinates::declination_of, crate::specs::Coordinates::right_ascension_of, crate::specs::Shared::mean_place_of,
+// The sidereal time.
+crate::specs::Coordinates::apparent_sidereal_time_of, crate::specs::Shared::mean_sidereal_of,))]
+
 ghost use Rattle.std.specs.Prelude.{◌≡◌};
 ghost use Rattle.ops.specs.Coordinates.{apparent_sidereal_time_of, solar_coordinates_of, position_of};
 ghost use Rattle.ops.specs.Shared.{equatorial_of, place_of, sidereal_time_of, mean_elements_of, mean_place_of, mean_sidereal_of};
@@ -41,7 +49,7 @@ fn on_the_sphere(obliquity: f64, longitude: f64) -> Equatorial
     let declination = Angle::from_radians(asin(tilt.sin * along.sin));
     let right_ascension = Angle::from_radians(atan2(tilt.cos * along.sin, along.cos));
     Equatorial {
-        declination: declination,
+        declination,
         right_ascension: right_ascension.unwound(),
     }
 }
@@ -75,7 +83,7 @@ impl MeanElements {
     {
         let century = julian_century(julian_day);
         MeanElements {
-            century: century,
+            century,
             longitude: mean_solar_longitude(century),
             obliquity: mean_obliquity_of_the_ecliptic(century),
         }
@@ -84,25 +92,20 @@ impl MeanElements {
     pub fn place(self) -> Equatorial
         ensures { result ≡ mean_place_of self }
     {
-        let mean_longitude = self.longitude;
-        let mean_obliquity = self.obliquity;
-        let apparent = apparent_position(self.century, mean_longitude, mean_obliquity);
-        let longitude = apparent.longitude;
-        let obliquity = apparent.obliquity;
-        on_the_sphere(obliquity.radians(), longitude.radians())
+        let apparent = apparent_position(self.century, self.longitude, self.obliquity);
+        on_the_sphere(apparent.obliquity.radians(), apparent.longitude.radians())
     }
 
     // The apparent sidereal time.
     pub fn sidereal_time(self) -> Angle
         ensures { result ≡ mean_sidereal_of self }
     {
-        let longitude = self.longitude;
-        let obliquity = self.obliquity;
-        apparent_sidereal_time(self.century, longitude, obliquity)
+        apparent_sidereal_time(self.century, self.longitude, self.obliquity)
     }
 }
 
 impl Equatorial {
+    #[tactic(auto, using(crate::proofs::SharedLaws::mean_place))]
     pub fn new(julian_day: f64) -> Equatorial
         ensures { result ≡ place_of (solar_coordinates_of julian_day) }
     {
@@ -111,6 +114,7 @@ impl Equatorial {
 }
 
 // The apparent sidereal time of a Julian Day.
+#[tactic(auto, using(crate::proofs::SharedLaws::mean_sidereal))]
 pub fn sidereal_time(julian_day: f64) -> Angle
     ensures { result ≡ sidereal_time_of (solar_coordinates_of julian_day) }
 {
@@ -118,16 +122,15 @@ pub fn sidereal_time(julian_day: f64) -> Angle
 }
 
 impl SolarCoordinates {
+    #[tactic(auto, using(crate::proofs::SharedLaws::mean_place, crate::proofs::SharedLaws::mean_sidereal))]
     pub fn new(julian_day: f64) -> SolarCoordinates
         ensures { result ≡ solar_coordinates_of julian_day }
     {
         let mean = MeanElements::new(julian_day);
         let place = mean.place();
-        let declination = place.declination;
-        let right_ascension = place.right_ascension;
         SolarCoordinates {
-            declination: declination,
-            right_ascension: right_ascension,
+            declination: place.declination,
+            right_ascension: place.right_ascension,
             apparent_sidereal_time: mean.sidereal_time(),
         }
     }

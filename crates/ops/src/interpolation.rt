@@ -1,4 +1,10 @@
 // ops.rs: interpolation between three equidistant values, by Meeus, Astronomical Algorithms, page 24.
+#![tactic(auto, unfolding(
+// A literal of the code is the decimal of the formula.
+float64::proofs::Floats::dec, float64::proofs::Floats::round, float64::proofs::Floats::of_bits,
+// Interpolation of numbers and of angles.
+crate::specs::Shared::interpolated_of, crate::specs::Transit::interpolate_of, crate::specs::Transit::interpolate_angles_of,))]
+
 ghost use Rattle.std.specs.Prelude.{◌≡◌};
 ghost use Rattle.ops.specs.Transit.{interpolate_of, interpolate_angles_of};
 ghost use Rattle.ops.specs.Shared.{differences_of, angle_differences_of, interpolated_of};
@@ -20,18 +26,18 @@ impl Interpolation {
         let a = value - previous_value;
         let b = next_value - value;
         Interpolation {
-            value: value,
+            value,
             sum: a + b,
             change: b - a,
         }
     }
 
-    // Of angles, whose differences are unwound.
+    // Of angles, whose differences are unwound. One function for both would need a trait that is longer than the line in which they differ.
     pub fn of_angles(value: Angle, previous_value: Angle, next_value: Angle) -> Interpolation
         ensures { result ≡ angle_differences_of value previous_value next_value }
     {
-        let a = value.sub(previous_value).unwound();
-        let b = next_value.sub(value).unwound();
+        let a = (value - previous_value).unwound();
+        let b = (next_value - value).unwound();
         Interpolation {
             value: value.degrees,
             sum: a.degrees + b.degrees,

@@ -1,4 +1,18 @@
 // ops.rs: the season, by which the MoonsightingCommittee method bounds Fajr and Isha.
+#![tactic(auto, using(crate::proofs::Between::le_is), unfolding(
+// A literal of the code is the decimal of the formula.
+float64::proofs::Floats::dec, float64::proofs::Floats::round, float64::proofs::Floats::of_bits,
+// Days.
+crate::specs::Season::southern_offset_of, crate::specs::Season::days_by_rule, crate::specs::Season::southern_count_of,
+// Days as the source counts them.
+crate::specs::Season::days_since_solstice_of,
+// Minutes by latitude.
+crate::specs::Season::evening_values_of, crate::specs::Season::more_minutes, crate::specs::Season::fewer_minutes,
+// Minutes by day.
+crate::specs::Season::twilight_adjustment_values_of, crate::specs::Season::twilight_adjustments_of,
+// Whole seconds.
+crate::specs::Season::morning_seconds_of, crate::specs::Season::evening_seconds_of,))]
+
 ghost use Rattle.std.specs.Prelude.{◌≡◌};
 ghost use Rattle.float64.specs.Ranges.{inside_of};
 ghost use Rattle.ops.specs.Season.{southern_offset_of, days_since_solstice_of, southern_count_of, season_days_of, source_season};
@@ -15,6 +29,7 @@ use models::rules::{Season, Southern};
 use models::shafaq::Shafaq;
 use whole_minutes::times::{plus, rounded_minute};
 
+// The source's own: `twilight_adjustment_values_of` speaks of it.
 #[derive(Clone, Copy)]
 pub enum AdjustmentDaytime {
     Morning,
@@ -43,15 +58,15 @@ pub fn days_since_solstice(day_of_year: u32, year: u32, latitude: f64) -> u32
 {
     let days_in_year = days_in_year(year);
     if latitude >= 0.0 {
-        let lapsed_days = std::num::wrapping_add_u32(day_of_year, 10);
+        let lapsed_days = day_of_year.wrapping_add(10);
         if lapsed_days >= days_in_year {
             lapsed_days - days_in_year
         } else {
             lapsed_days
         }
     } else {
-        let lapsed_days = std::num::wrapping_sub_u32(day_of_year, southern_offset(year));
-        std::num::wrapping_add_u32(lapsed_days, days_in_year)
+        let lapsed_days = day_of_year.wrapping_sub(southern_offset(year));
+        lapsed_days.wrapping_add(days_in_year)
     }
 }
 
@@ -62,24 +77,25 @@ fn southern_count(day_of_year: u32, year: u32) -> u32
     let solstice = southern_offset(year);
     let days = days_in_year(year);
     if solstice <= day_of_year {
-        return day_of_year - solstice;
+        day_of_year - solstice
+    } else {
+        day_of_year + days - solstice
     }
-    day_of_year + days - solstice
 }
 
 // By the rule that is chosen for the south. No other place asks for the rule.
 pub fn season_days(season: Season, day_of_year: u32, year: u32) -> u32
     ensures { result ≡ season_days_of season day_of_year year }
 {
-    let southern = season.southern;
     let by_source = days_since_solstice(day_of_year, year, season.latitude);
-    match southern {
+    match season.southern {
         Southern::Unreduced => by_source,
         Southern::StartsAgain => {
             if season.latitude >= 0.0 {
-                return by_source;
+                by_source
+            } else {
+                southern_count(day_of_year, year)
             }
-            southern_count(day_of_year, year)
         }
     }
 }
@@ -139,26 +155,19 @@ fn interpolate_linearly(from: f64, to: f64, days: f64, lapsed: f64) -> f64
     from + (to - from) / days * lapsed
 }
 
-// Rust's (low..=high).contains(&x).
-fn within(low: f64, high: f64, x: f64) -> bool
-    ensures { result ≡ inside_of low high x }
-{
-    if low <= x { x <= high } else { false }
-}
-
 // The minutes on a day, by the six parts of the year.
 fn twilight_adjustments(values: TwilightAdjustmentValues, dyy: f64) -> f64
     ensures { result ≡ twilight_adjustments_of values dyy }
 {
-    if within(0.0, 90.0, dyy) {
+    if (0.0..=90.0).contains(&dyy) {
         interpolate_linearly(values.a, values.b, 91.0, dyy)
-    } else if within(91.0, 136.0, dyy) {
+    } else if (91.0..=136.0).contains(&dyy) {
         interpolate_linearly(values.b, values.c, 46.0, dyy - 91.0)
-    } else if within(137.0, 182.0, dyy) {
+    } else if (137.0..=182.0).contains(&dyy) {
         interpolate_linearly(values.c, values.d, 46.0, dyy - 137.0)
-    } else if within(183.0, 228.0, dyy) {
+    } else if (183.0..=228.0).contains(&dyy) {
         interpolate_linearly(values.d, values.c, 46.0, dyy - 183.0)
-    } else if within(229.0, 274.0, dyy) {
+    } else if (229.0..=274.0).contains(&dyy) {
         interpolate_linearly(values.c, values.b, 46.0, dyy - 229.0)
     } else {
         interpolate_linearly(values.b, values.a, 91.0, dyy - 275.0)
@@ -209,7 +218,7 @@ fn source_season(latitude: f64) -> Season
     ensures { result ≡ source_season latitude }
 {
     Season {
-        latitude: latitude,
+        latitude,
         southern: Southern::Unreduced,
     }
 }

@@ -1,4 +1,20 @@
 // ops.rs: where the sun is, by the formulas of Meeus, Astronomical Algorithms.
+#![tactic(auto, unfolding(
+// A literal of the code is the decimal of the formula.
+float64::proofs::Floats::dec, float64::proofs::Floats::round, float64::proofs::Floats::of_bits,
+// Mean places.
+crate::specs::Sun::julian_century_of, crate::specs::Sun::mean_solar_longitude_of, crate::specs::Sun::mean_lunar_longitude_of,
+// The moon's node, twice.
+crate::specs::Sun::ascending_lunar_node_longitude_of, crate::specs::Sun::omega_of,
+// The sun's ellipse.
+crate::specs::Sun::mean_solar_anomaly_of, crate::specs::Sun::solar_equation_of_the_center_of,
+// Apparent places.
+crate::specs::Sun::apparent_solar_longitude_of, crate::specs::Sun::apparent_obliquity_of_the_ecliptic_of,
+// The ecliptic and the vernal equinox.
+crate::specs::Sun::mean_obliquity_of_the_ecliptic_of, crate::specs::Sun::mean_sidereal_time_of,
+// Nutation.
+crate::specs::Sun::nutation_in_longitude_of, crate::specs::Sun::nutation_in_obliquity_of,))]
+
 ghost use Rattle.std.specs.Prelude.{◌≡◌};
 ghost use Rattle.ops.specs.Sun.{square, cube, julian_century_of, mean_solar_longitude_of, mean_lunar_longitude_of};
 ghost use Rattle.ops.specs.Sun.{ascending_lunar_node_longitude_of, mean_solar_anomaly_of, solar_equation_of_the_center_of, omega_of};
@@ -13,7 +29,7 @@ use fdlibm_trig::s_sin::sin;
 use fdlibm_trig::s_sincos::sincos;
 use unit::Angle;
 
-// powf(2.0).
+// powf(2.0). `powi` is a loop, so it costs more, and the definitions of specs/Sun have the products.
 fn squared(x: f64) -> f64
     ensures { result ≡ square x }
 {
@@ -97,10 +113,8 @@ fn corrected_longitude(julian_century: f64, mean_longitude: Angle, node: f64) ->
     requires { node ≡ sin_of (radians_of (omega_of julian_century)) }
     ensures { result ≡ apparent_solar_longitude_of julian_century mean_longitude }
 {
-    let longitude = mean_longitude.add(solar_equation_of_the_center(
-        julian_century,
-        mean_solar_anomaly(julian_century),
-    ));
+    let anomaly = mean_solar_anomaly(julian_century);
+    let longitude = mean_longitude + solar_equation_of_the_center(julian_century, anomaly);
     Angle::new(longitude.degrees - 0.00569 - (0.00478 * node)).unwound()
 }
 
@@ -157,11 +171,9 @@ pub fn apparent_position(
     ensures { result ≡ apparent_position_of julian_century mean_longitude mean_obliquity }
 {
     let node = sincos(omega(julian_century).radians());
-    let sine = node.sin;
-    let cosine = node.cos;
     Apparent {
-        longitude: corrected_longitude(julian_century, mean_longitude, sine),
-        obliquity: corrected_obliquity(julian_century, mean_obliquity, cosine),
+        longitude: corrected_longitude(julian_century, mean_longitude, node.sin),
+        obliquity: corrected_obliquity(julian_century, mean_obliquity, node.cos),
     }
 }
 
@@ -202,8 +214,8 @@ pub fn nutations(solar_longitude: Angle, lunar_longitude: Angle, ascending_node:
         + (0.10 / 3600.0) * third.cos
         - (0.09 / 3600.0) * fourth.cos;
     Nutation {
-        longitude: longitude,
-        obliquity: obliquity,
+        longitude,
+        obliquity,
     }
 }
 

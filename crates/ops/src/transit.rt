@@ -1,6 +1,22 @@
 // ops.rs: when the sun crosses the meridian and when it is at a given altitude, by Meeus, Astronomical Algorithms.
 // What several hour numbers of a day share is worked once: the sine and cosine of the latitude (Observer), the differences
 // of the interpolations and the products of the sines and of the cosines (Course).
+#![tactic(auto, unfolding(
+// A literal of the code is the decimal of the formula.
+float64::proofs::Floats::dec, float64::proofs::Floats::round, float64::proofs::Floats::of_bits,
+// Altitude, and the longitude counted to the west.
+crate::specs::Transit::altitude_of_celestial_body_of, crate::specs::Transit::west_of,
+// The approximate transit.
+crate::specs::Shared::transit_from_of, crate::specs::Transit::approximate_transit_of,
+// The transit.
+crate::specs::Transit::corrected_transit_of, crate::specs::Shared::course_transit_number_of,
+// The hour angle.
+crate::specs::Shared::hour_angle_of, crate::specs::Transit::hour_angle_at_of,
+// An arc.
+crate::specs::Shared::arc_to_sine_of, crate::specs::Shared::half_arc_of,
+// The hour number that it gives.
+crate::specs::Shared::hour_number_of, crate::specs::Shared::moved_transit_of,))]
+
 ghost use Rattle.std.specs.Prelude.{◌≡◌};
 ghost use Rattle.ops.specs.Transit.{altitude_of_celestial_body_of, west_of, approximate_transit_of, corrected_transit_of};
 ghost use Rattle.ops.specs.Transit.{corrected_hour_angle_of};
@@ -34,15 +50,15 @@ pub fn altitude_of_celestial_body(
 fn west(longitude: Angle) -> Angle
     ensures { result ≡ west_of longitude }
 {
-    longitude.mul(Angle::new(-1.0))
+    longitude * Angle::new(-1.0)
 }
 
 // The approximate transit from the longitude counted to the west.
 fn transit_from(west: Angle, sidereal_time: Angle, right_ascension: Angle) -> f64
     ensures { result ≡ transit_from_of west sidereal_time right_ascension }
 {
-    let angle = right_ascension.add(west).sub(sidereal_time);
-    normalized_to_scale(angle.div(Angle::new(360.0)).degrees, 1.0)
+    let angle = right_ascension + west - sidereal_time;
+    normalized_to_scale((angle / Angle::new(360.0)).degrees, 1.0)
 }
 
 pub fn approximate_transit(longitude: Angle, sidereal_time: Angle, right_ascension: Angle) -> f64
@@ -64,9 +80,8 @@ impl Observer {
         ensures { result ≡ observer_of coordinates }
     {
         let latitude = sincos(coordinates.latitude_angle().radians());
-        let longitude = west(coordinates.longitude_angle());
         Observer {
-            west: longitude,
+            west: west(coordinates.longitude_angle()),
             sine: latitude.sin,
             cosine: latitude.cos,
         }
@@ -97,23 +112,20 @@ impl Course {
     ) -> Course
         ensures { result ≡ course_through_of transit observer sidereal_time previous today next }
     {
-        let declination = today.declination;
-        let declination_before = previous.declination;
-        let declination_after = next.declination;
-        let inclination = sincos(declination.radians());
+        let inclination = sincos(today.declination.radians());
         Course {
-            observer: observer,
-            transit: transit,
-            sidereal_time: sidereal_time,
+            observer,
+            transit,
+            sidereal_time,
             right_ascension: Interpolation::of_angles(
                 today.right_ascension,
                 previous.right_ascension,
                 next.right_ascension,
             ),
             declination: Interpolation::new(
-                declination.degrees,
-                declination_before.degrees,
-                declination_after.degrees,
+                today.declination.degrees,
+                previous.declination.degrees,
+                next.declination.degrees,
             ),
             sines: observer.sine * inclination.sin,
             cosines: observer.cosine * inclination.cos,
@@ -138,13 +150,9 @@ impl Course {
     fn hour_angle(self, at: f64) -> Angle
         ensures { result ≡ hour_angle_of self at }
     {
-        let sidereal_time = self.sidereal_time;
-        let right_ascension = self.right_ascension;
-        let observer = self.observer;
-        let west = observer.west;
-        let plane_angle = Angle::new(sidereal_time.degrees + (360.985647 * at)).unwound();
-        let interpolated_angles = Angle::new(right_ascension.at(at)).unwound();
-        plane_angle.sub(west).sub(interpolated_angles)
+        let plane_angle = Angle::new(self.sidereal_time.degrees + (360.985647 * at)).unwound();
+        let interpolated_angles = Angle::new(self.right_ascension.at(at)).unwound();
+        plane_angle - self.observer.west - interpolated_angles
     }
 
     // The hour number of the transit.
@@ -153,7 +161,7 @@ impl Course {
     {
         let transit = self.transit;
         let angles = self.hour_angle(transit).quadrant_shifted();
-        let angle_delta = angles.div(Angle::new(-360.0));
+        let angle_delta = angles / Angle::new(-360.0);
         (transit + angle_delta.degrees) * 24.0
     }
 
@@ -178,14 +186,12 @@ impl Course {
     {
         let at = moved_transit(self.transit, arc, after_transit);
         let observer = self.observer;
-        let interpolation = self.declination;
         let hour = sincos(self.hour_angle(at).radians());
-        let declination = sincos(Angle::new(interpolation.at(at)).radians());
-        let cosine = declination.cos;
+        let declination = sincos(Angle::new(self.declination.at(at)).radians());
         let term1 = observer.sine * declination.sin;
-        let term2 = observer.cosine * cosine * hour.cos;
-        let term3 = Angle::from_radians(asin(term1 + term2)).sub(angle).degrees;
-        let term4 = 360.0 * cosine * observer.cosine * hour.sin;
+        let term2 = observer.cosine * declination.cos * hour.cos;
+        let term3 = (Angle::from_radians(asin(term1 + term2)) - angle).degrees;
+        let term4 = 360.0 * declination.cos * observer.cosine * hour.sin;
         (at + term3 / term4) * 24.0
     }
 }
@@ -223,14 +229,12 @@ pub fn corrected_transit(
         approximate_transit,
     )
     .unwound();
-    let angles = plane_angle
-        .sub(west(longitude))
-        .sub(interpolated_angles)
-        .quadrant_shifted();
-    let angle_delta = angles.div(Angle::new(-360.0));
+    let angles = (plane_angle - west(longitude) - interpolated_angles).quadrant_shifted();
+    let angle_delta = angles / Angle::new(-360.0);
     (approximate_transit + angle_delta.degrees) * 24.0
 }
 
+// The source's own signature: `corrected_hour_angle_of` has the eleven values one by one.
 pub fn corrected_hour_angle(
     approximate_transit: f64,
     angle: Angle,
@@ -252,8 +256,8 @@ pub fn corrected_hour_angle(
         right_ascension: previous_right_ascension,
     };
     let today = Equatorial {
-        declination: declination,
-        right_ascension: right_ascension,
+        declination,
+        right_ascension,
     };
     let next = Equatorial {
         declination: next_declination,

@@ -1,4 +1,5 @@
 -- After an order is read, a caller may rely on this: its record is as Accepted.antt says. Assumes nothing.
+use Rattle.std.specs.Prelude.{Ok}
 use Rattle.prelude.proofs.Logic.{◌≡◌, refl, sym, ap, subst, true, ◌&&◌, ◌||◌, List, ℕ, ◌+◌, ◌-◌, ◌≤◌, ◌<◌, arith, leb, lit≤, ℤ, pos, negsuc}
 use Rattle.prelude.proofs.Logic.{◌-ℤ◌, get_or, le_z, leb-true, eqb-true, arms, cases, both}
 use Rattle.float64.proofs.Floats.{Float, neg, le, round, dec, Inside}
@@ -19,7 +20,6 @@ use Rattle.models.specs.declared.method.Method.TheVariants.{NorthAmerica, Kuwait
 use Rattle.models.specs.declared.prayer.Prayer.TheVariants.{Fajr, Sunrise, Dhuhr, Asr, Maghrib, Isha, Qiyam, FajrTomorrow}
 use Rattle.models.proofs.Models.{no_minutes, method_of, preset, preset_of, minutes_for}
 use Rattle.order.specs.declared.reading.Order.{Order}
-use Rattle.order.specs.declared.reading.Reading.TheVariants.{Read}
 use Rattle.order.specs.Given.{date_in, rows_in, degrees_in, form_in, coordinate_in, minutes_in, degrees_or, minutes_or, interval_or}
 use Rattle.order.specs.Given.{parameters_in, clock_in, ramadan_given, ramadan_in}
 use Rattle.order.specs.Ranges.{most_rows, most_in, date_fits, rows_fit, degrees_fit, minute_fits, minutes_fit, interval_fits, clock_fits}
@@ -221,7 +221,7 @@ accepted v given ranges start =
     fits : (tag : ℕ) → 1 ≤ tag → tag ≤ last_tag → v.has tag ≡ true → fits_of v tag ≡ true
     fits = fits_given v ranges
 
-pub read_accepted : (s : List ℕ) (order : Order) → reading_of s ≡ Read order → Accepted order
+pub read_accepted : (s : List ℕ) (order : Order) → reading_of s ≡ Ok order → Accepted order
 read_accepted s order e =
     let passed = read_passed s order e in
     subst Accepted passed.same (accepted (values_of s) passed.given passed.ranges passed.start)

@@ -1,42 +1,75 @@
--- What both readers return, from the fields that they checked and collected. Assumes nothing.
-use Rattle.prelude.proofs.Logic.{◌≡◌, sym, ap, ◌∙◌, List, [], ◌∷◌, ℕ, eqb, eq-eqb, ne_eqb, cases}
-use Rattle.fields.specs.declared.values.Checked.{Checked}
+-- What both readers return, check by check. Assumes nothing.
+use Rattle.std.specs.Prelude.{Err, Ok, Result}
+use Rattle.prelude.proofs.Logic.{◌≡◌, sym, ap, ◌∙◌, List, [], ◌∷◌, ℕ, eq-eqb, ne_eqb}
+use Rattle.fields.specs.declared.values.Fields.{Fields}
 use Rattle.fields.specs.Fields.{check_of}
-use Rattle.fields.specs.Values.{Values, values_of, values_in, checked_of}
-use Rattle.fields.proofs.Collecting.{checked-refusal, checked-values}
+use Rattle.fields.specs.Values.{Values, fields_of, checked_of, values_in, values_of}
 use Rattle.refusals.specs.declared.Refusal.{Refusal}
-use Rattle.refusals.specs.Refusals.{or_of}
+use Rattle.refusals.specs.Refusals.{unless_refused}
+use Rattle.refusals.proofs.Refused.{was_refused, was_not}
 use Rattle.order.specs.declared.reading.Order.{Order}
-use Rattle.order.specs.declared.reading.Reading.TheVariants.{Read, Refused}
-use Rattle.order.specs.Reading.{order_of, first_of, checks_of, reading_of}
+use Rattle.order.specs.Reading.{missing_of, both_forms_of, out_of_range_of, wrong_start_of, order_of, first_of, checks_of, reading_of}
 
--- two checks in a chain are one check
-pub first_or : (a b : Refusal) (rest : List Refusal) (o : Order) → first_of (a ∷ b ∷ rest) o ≡ first_of (or_of a b ∷ rest) o
-unfolding first_of or_of
-first_or a b rest o = cases (eqb a.number 0) (λ h. simp h) (λ h. simp h)
-
--- one check alone
-module _ (r : Refusal) (o : Order) where
-  pub refused-alone : (r.number ≡ 0 → ⊥) → Refused r ≡ first_of (r ∷ []) o
+-- the first check of a chain refuses, or the rest decides
+module _ {A : Type 0} (r : Refusal) (value : A) (rest : List Refusal) (o : Order) where
+  pub stops : (e : Refusal) → Err e ≡ unless_refused r value → Err e ≡ first_of (r ∷ rest) o
   unfolding first_of
-  refused-alone n = simp (ne_eqb _ _ n)
+  stops e h = let w = was_refused r value e h in ap Err w.0 ∙ simp (ne_eqb r.number 0 w.1)
 
-  pub read-alone : r.number ≡ 0 → Read o ≡ first_of (r ∷ []) o
+  pub goes_on : (x : A) → Ok x ≡ unless_refused r value → first_of (r ∷ rest) o ≡ first_of rest o
   unfolding first_of
-  read-alone p = simp (eq-eqb _ _ p)
+  goes_on x h = simp (eq-eqb r.number 0 (was_not r value x h).0)
 
-module _ (s : List ℕ) (checked : Checked) (is_checked : checked ≡ checked_of s) where
-  broken : check_of s ≡ checked.refusal
-  broken = sym (checked-refusal s checked is_checked)
+-- ---- the checks of the values
+module _ (v : Values) where
+  abbrev o : Order
+  o = order_of v
 
-  pub by-fields : (checked.refusal.number ≡ 0 → ⊥) → Refused checked.refusal ≡ reading_of s
-  unfolding reading_of first_of
-  by-fields n = simp (broken, ne_eqb _ _ n)
+  abbrev start : Refusal
+  start = wrong_start_of o.ramadan o.date
 
-  pub by_values : checked.refusal.number ≡ 0
-      → first_of (checks_of (values_in s checked.fields)) (order_of (values_in s checked.fields)) ≡ reading_of s
-  unfolding reading_of
-  by_values p =
-      let e : first_of (check_of s ∷ checks_of (values_of s)) (order_of (values_of s)) ≡ first_of (checks_of (values_of s)) (order_of (values_of s)) =
-      unfold first_of in simp (broken, eq-eqb _ _ p) in
-      ap (λ (v : Values). first_of (checks_of v) (order_of v)) (checked-values s checked is_checked p) ∙ sym e
+  abbrev pub Passes : Refusal → Type 0
+  Passes r = ◌≡◌ {A = Result (Unit {0}) Refusal} (Ok tt) (unless_refused r tt)
+
+  abbrev pub Refuses : Refusal → Refusal → Type 0
+  Refuses r e = ◌≡◌ {A = Result (Unit {0}) Refusal} (Err e) (unless_refused r tt)
+
+  pub by_missing : (e : Refusal) → Refuses (missing_of v.has) e → Err e ≡ first_of (checks_of v) o
+  by_missing e h = stops (missing_of v.has) tt (both_forms_of v.has ∷ out_of_range_of v ∷ start ∷ []) o e h
+
+  module _ (m : Passes (missing_of v.has)) where
+    after-missing : first_of (checks_of v) o ≡ first_of (both_forms_of v.has ∷ out_of_range_of v ∷ start ∷ []) o
+    after-missing = goes_on (missing_of v.has) tt (both_forms_of v.has ∷ out_of_range_of v ∷ start ∷ []) o tt m
+
+    pub by-both_forms : (e : Refusal) → Refuses (both_forms_of v.has) e → Err e ≡ first_of (checks_of v) o
+    by-both_forms e h = stops (both_forms_of v.has) tt (out_of_range_of v ∷ start ∷ []) o e h ∙ sym after-missing
+
+    module _ (b : Passes (both_forms_of v.has)) where
+      after-both : first_of (checks_of v) o ≡ first_of (out_of_range_of v ∷ start ∷ []) o
+      after-both = after-missing ∙ goes_on (both_forms_of v.has) tt (out_of_range_of v ∷ start ∷ []) o tt b
+
+      pub by-range : (e : Refusal) → Refuses (out_of_range_of v) e → Err e ≡ first_of (checks_of v) o
+      by-range e h = stops (out_of_range_of v) tt (start ∷ []) o e h ∙ sym after-both
+
+      module _ (i : Passes (out_of_range_of v)) where
+        after-range : first_of (checks_of v) o ≡ first_of (start ∷ []) o
+        after-range = after-both ∙ goes_on (out_of_range_of v) tt (start ∷ []) o tt i
+
+        pub by-start : (e : Refusal) → Refuses start e → Err e ≡ first_of (checks_of v) o
+        by-start e h = stops start tt [] o e h ∙ sym after-range
+
+        pub by-none : Passes start → Ok o ≡ first_of (checks_of v) o
+        unfolding first_of
+        by-none h = sym (after-range ∙ goes_on start tt [] o tt h)
+
+-- ---- the form of the fields first, then what they give
+module _ (s : List ℕ) where
+  pub by_fields : (e : Refusal) → Err e ≡ checked_of s → Err e ≡ reading_of s
+  unfolding checked_of reading_of
+  by_fields e h = stops (check_of s) (fields_of s) (checks_of (values_of s)) (order_of (values_of s)) e h
+
+  pub by_values : (f : Fields) → Ok f ≡ checked_of s → first_of (checks_of (values_in s f)) (order_of (values_in s f)) ≡ reading_of s
+  unfolding checked_of reading_of
+  by_values f h =
+      ap (λ (x : Fields). first_of (checks_of (values_in s x)) (order_of (values_in s x))) (was_not (check_of s) (fields_of s) f h).1
+      ∙ sym (goes_on (check_of s) (fields_of s) (checks_of (values_of s)) (order_of (values_of s)) f h)

@@ -1,7 +1,7 @@
 pub mod Tags
-pub mod Text
 pub mod ReadingLaws
 pub mod RowDates
 pub mod AcceptedLaws
 pub mod Answers
 pub mod OutOfRange
+pub mod GivenLaws

@@ -1,4 +1,5 @@
 -- What follows for the checks and for the town if an order is read, or if it is refused. Assumes nothing.
+use Rattle.std.specs.Prelude.{Err, Ok}
 use Rattle.prelude.proofs.Logic.{◌≡◌, refl, sym, ap, subst, ◌∙◌, Bool, true, false, not, ◌&&◌, ◌||◌, List, [], ◌∷◌, ℕ, ◌+◌, ◌-◌, ◌≤◌, ◌<◌}
 use Rattle.prelude.proofs.Logic.{arith, eqb, lit≤, length, get_or, eqb-true, eqb-false, arms, cases}
 use Rattle.calendar.specs.Days.{day_number_of}
@@ -13,7 +14,6 @@ use Rattle.hijri.specs.Ramadan.{ramadan_start_of}
 use Rattle.hijri.specs.declared.ramadan.Ramadan.{Ramadan}
 use Rattle.refusals.specs.declared.Refusal.{Refusal}
 use Rattle.order.specs.declared.reading.Order.{Order}
-use Rattle.order.specs.declared.reading.Reading.TheVariants.{Read, Refused}
 use Rattle.text.specs.Text.{printable}
 use Rattle.order.specs.Ranges.{look_up, fits_of, in_range_of}
 use Rattle.order.specs.Reading.{required, is_given_of, missing_of, both_forms_of, out_of_range_of, tags_from, order_of, wrong_start_of, first_of}
@@ -39,14 +39,14 @@ up_to_five n l h = absurd (omega arith)
 
 -- ---- the refusals, one after another
 module _ (r : Refusal) (rest : List Refusal) (o : Order) where
-  pub passed_on : (order : Order) → first_of (r ∷ rest) o ≡ Read order → (r.number ≡ 0) × (first_of rest o ≡ Read order)
+  pub passed_on : (order : Order) → first_of (r ∷ rest) o ≡ Ok order → (r.number ≡ 0) × (first_of rest o ≡ Ok order)
   unfolding first_of
   passed_on order e =
       cases (eqb r.number 0) (λ h. (eqb-true r.number 0 h, simp h at e)) (λ h. let z : ◌≡◌ {A = ℕ} 0 1 = cc in absurd (omega arith))
 
   -- the result is one of the refusals whose number is not 0
-  refused-one : (x : Refusal) → Small r.number → (first_of rest o ≡ Refused x → Refusing x.number)
-      → first_of (r ∷ rest) o ≡ Refused x → Refusing x.number
+  refused-one : (x : Refusal) → Small r.number → (first_of rest o ≡ Err x → Refusing x.number)
+      → first_of (r ∷ rest) o ≡ Err x → Refusing x.number
   unfolding first_of
   refused-one x small later e =
       cases (eqb r.number 0) (λ h. later (simp h at e))
@@ -64,7 +64,7 @@ pub record Passed (s : List ℕ) (order : Order) : Type 0 where
   pub start : (wrong_start_of (order_of (values_of s)).ramadan (order_of (values_of s)).date).number ≡ 0
   pub same : order_of (values_of s) ≡ order
 
-pub read_passed : (s : List ℕ) (order : Order) → reading_of s ≡ Read order → Passed s order
+pub read_passed : (s : List ℕ) (order : Order) → reading_of s ≡ Ok order → Passed s order
 unfolding reading_of first_of
 read_passed s order e =
     let v = values_of s in
@@ -74,7 +74,7 @@ read_passed s order e =
     let c = passed_on (both_forms_of (has_of s)) (out_of_range_of v ∷ start ∷ []) (order_of v) order b.1 in
     let d = passed_on (out_of_range_of v) (start ∷ []) (order_of v) order c.1 in
     let f = passed_on start [] (order_of v) order d.1 in
-    let o : Read (order_of v) ≡ Read order = f.1 in
+    let o : Ok (order_of v) ≡ Ok order = f.1 in
     record { fields = a.0; given = b.0; single = c.0; ranges = d.0; start = f.0; same = cc }
 
 both_forms_number : (has : ℕ → Bool) → Small (both_forms_of has).number
@@ -91,7 +91,7 @@ start_number ramadan date =
     (λ t l. record { most = lit≤ tt; otherwise = λ h. absurd (omega arith) }) (λ t l. absurd (omega arith))
 
 -- a refusal's number is from 1 to 5, or 15 or 18
-pub refused_by : (s : List ℕ) (r : Refusal) → reading_of s ≡ Refused r → Refusing r.number
+pub refused_by : (s : List ℕ) (r : Refusal) → reading_of s ≡ Err r → Refusing r.number
 unfolding reading_of first_of missing_of out_of_range_of
 refused_by s r e =
     let v = values_of s in
@@ -149,14 +149,14 @@ town_of_lem s order passed =
     }
 
 -- it is the value of tag 1
-pub town_value : (s : List ℕ) (order : Order) → reading_of s ≡ Read order → town_of s ≡ value_of s 1
+pub town_value : (s : List ℕ) (order : Order) → reading_of s ≡ Ok order → town_of s ≡ value_of s 1
 unfolding town_of town_in order_of values_in
 town_value s order e = simp e (ap (λ (o : Order). part_in s o.town) (sym (read_passed s order e).same))
 
-pub read_town : (s : List ℕ) (order : Order) → reading_of s ≡ Read order → Town s (town_of s) order
+pub read_town : (s : List ℕ) (order : Order) → reading_of s ≡ Ok order → Town s (town_of s) order
 unfolding town_of town_in
 read_town s order e = simp e (town_of_lem s order (read_passed s order e))
 
-pub refused_town : (s : List ℕ) (r : Refusal) → reading_of s ≡ Refused r → town_of s ≡ []
+pub refused_town : (s : List ℕ) (r : Refusal) → reading_of s ≡ Err r → town_of s ≡ []
 unfolding town_of town_in
 refused_town s r e = simp e

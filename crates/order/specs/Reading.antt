@@ -1,5 +1,5 @@
 -- Document 01, "The order": what reading any bytes returns.
-use Rattle.std.specs.Prelude.{ℕ, zero, suc, ◌+◌, Bool, cond, not, ◌&&◌, ◌||◌, List, [], ◌∷◌, eqb}
+use Rattle.std.specs.Prelude.{ℕ, zero, suc, ◌+◌, Bool, cond, not, ◌&&◌, ◌||◌, List, [], ◌∷◌, eqb, Err, Ok, Result}
 use Rattle.calendar.specs.Days.{day_number_of}
 use Rattle.calendar.specs.declared.dates.Date.{Date}
 use Rattle.fields.specs.Fields.{check_of}
@@ -13,8 +13,6 @@ use Rattle.refusals.specs.Refusals.{refusal, no_refusal, tag_missing, out_of_ran
 use Rattle.refusals.specs.declared.Refusal.{Refusal}
 use Rattle.unit.specs.Unit.{coordinates_of}
 use Rattle.order.specs.declared.reading.Order.{Order}
-use Rattle.order.specs.declared.reading.Reading.{Reading}
-use Rattle.order.specs.declared.reading.Reading.TheVariants.{Read, Refused}
 use Rattle.order.specs.Given.{date_in, rows_in, coordinate_in, parameters_in, rules_in, clock_in, ramadan_in}
 use Rattle.order.specs.Ranges.{look_up, in_range_of}
 
@@ -70,9 +68,9 @@ wrong_start_of ramadan date =
     cond (ramadan.set && not (ramadan_start_of (day_number_of date) ramadan.shift)) (refusal not_first_of_ramadan date_tag) no_refusal
 
 -- the first refusal that refuses something; if none does, the record
-unfoldable pub first_of : List Refusal → Order → Reading
-first_of [] order = Read order
-first_of (r ∷ rest) order = cond (eqb r.number 0) (first_of rest order) (Refused r)
+unfoldable pub first_of : List Refusal → Order → Result Order Refusal
+first_of [] order = Ok order
+first_of (r ∷ rest) order = cond (eqb r.number 0) (first_of rest order) (Err r)
 
 -- "then missing tags", then both forms of a coordinate, "after missing tags and before ranges", "then ranges", then the start of a Ramadan
 -- sheet, "after all ranges and before the day"
@@ -80,13 +78,13 @@ abbrev pub checks_of : Values → List Refusal
 checks_of v = missing_of v.has ∷ both_forms_of v.has ∷ out_of_range_of v ∷ wrong_start_of (order_of v).ramadan (order_of v).date ∷ []
 
 -- "Order of checks: length over 1,024; then field by field", and then the checks above
-unfoldable pub reading_of : List ℕ → Reading
+unfoldable pub reading_of : List ℕ → Result Order Refusal
 reading_of s = first_of (check_of s ∷ checks_of (values_of s)) (order_of (values_of s))
 
 -- "The town's name is handed back as that part of the order itself, an empty part where the order is refused."
-unfoldable pub town_in : List ℕ → Reading → List ℕ
-town_in s (Read order) = part_in s order.town
-town_in s (Refused refusal) = []
+unfoldable pub town_in : List ℕ → Result Order Refusal → List ℕ
+town_in s (Ok order) = part_in s order.town
+town_in s (Err refusal) = []
 
 unfoldable pub town_of : List ℕ → List ℕ
 town_of s = town_in s (reading_of s)

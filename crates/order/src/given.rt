@@ -1,13 +1,13 @@
 // What each tag's value gives if it is in range, and what a missing tag means.
 ghost use Rattle.std.specs.Prelude.{◌≡◌};
-ghost use Rattle.fields.specs.Values.{values_in};
+ghost use Rattle.fields.specs.Values.{given_by};
 ghost use Rattle.order.specs.Given.{date_in, rows_in, degrees_in, form_in, coordinate_in, minutes_in, byte_or, degrees_or, rounding_or};
 ghost use Rattle.order.specs.Given.{minutes_or, interval_or, parameters_in, rules_in, clock_in, ramadan_in};
 
 use calendar::dates::Date;
 use fields::numbers::{byte, float, signed, unsigned};
 use fields::tags;
-use fields::values::{Fields, value};
+use fields::values::Given;
 use hijri::ramadan::Ramadan;
 use map_form::MapForm;
 use map_form::reading::degrees_of;
@@ -15,6 +15,7 @@ use models::adjustments::TimeAdjustment;
 use models::high_altitude_rule::HighLatitudeRule;
 use models::madhab::Madhab;
 use models::method::Method;
+use models::numbered::Numbered;
 use models::parameters::Parameters;
 use models::rounding::Rounding;
 use models::rules::{Midnight, Rules, Southern};
@@ -57,13 +58,12 @@ pub fn form_in(bytes: &[u8]) -> MapForm
 }
 
 // A coordinate in either form: as on the map if the order has the tag `map`, else the float of the tag `float`.
-pub fn coordinate_in(order: &[u8], fields: Fields, float: u32, map: u32) -> f64
-    ensures { result ≡ coordinate_in (values_in order.now fields) float map }
+pub fn coordinate_in(given: Given, float: u32, map: u32) -> f64
+    ensures { result ≡ coordinate_in (given_by given.entry) float map }
 {
-    if fields.has(map) {
-        degrees_of(form_in(value(order, fields, map)))
-    } else {
-        degrees_in(value(order, fields, float))
+    match given.get(map) {
+        Some(bytes) => degrees_of(form_in(bytes)),
+        None => degrees_in(given.value(float)),
     }
 }
 
@@ -80,120 +80,94 @@ pub fn minutes_in(bytes: &[u8]) -> TimeAdjustment
     )
 }
 
-fn byte_or(order: &[u8], fields: Fields, tag: u32, missing: u32) -> u32
-    ensures { result ≡ byte_or (values_in order.now fields) tag missing }
+fn byte_or(given: Given, tag: u32, missing: u32) -> u32
+    ensures { result ≡ byte_or (given_by given.entry) tag missing }
 {
-    if fields.has(tag) {
-        byte(value(order, fields, tag), 0)
-    } else {
-        missing
-    }
+    given.get(tag).map_or(missing, |bytes| byte(bytes, 0))
 }
 
-fn degrees_or(order: &[u8], fields: Fields, tag: u32, missing: f64) -> f64
-    ensures { result ≡ degrees_or (values_in order.now fields) tag missing }
+fn degrees_or(given: Given, tag: u32, missing: f64) -> f64
+    ensures { result ≡ degrees_or (given_by given.entry) tag missing }
 {
-    if fields.has(tag) {
-        degrees_in(value(order, fields, tag))
-    } else {
-        missing
-    }
+    given.get(tag).map_or(missing, degrees_in)
 }
 
-fn rounding_or(order: &[u8], fields: Fields, missing: Rounding) -> Rounding
-    ensures { result ≡ rounding_or (values_in order.now fields) missing }
+fn rounding_or(given: Given, missing: Rounding) -> Rounding
+    ensures { result ≡ rounding_or (given_by given.entry) missing }
 {
-    if fields.has(tags::ROUNDING) {
-        Rounding::of_number(byte(value(order, fields, tags::ROUNDING), 0))
-    } else {
-        missing
-    }
+    given
+        .get(tags::ROUNDING)
+        .map_or(missing, |bytes| Rounding::of_number(byte(bytes, 0)))
 }
 
-fn minutes_or(order: &[u8], fields: Fields, missing: TimeAdjustment) -> TimeAdjustment
-    ensures { result ≡ minutes_or (values_in order.now fields) missing }
+fn minutes_or(given: Given, missing: TimeAdjustment) -> TimeAdjustment
+    ensures { result ≡ minutes_or (given_by given.entry) missing }
 {
-    if fields.has(tags::MINUTES) {
-        minutes_in(value(order, fields, tags::MINUTES))
-    } else {
-        missing
-    }
+    given.get(tags::MINUTES).map_or(missing, minutes_in)
 }
 
-fn interval_or(order: &[u8], fields: Fields, missing: i32) -> i32
-    ensures { result ≡ interval_or (values_in order.now fields) missing }
+fn interval_or(given: Given, missing: i32) -> i32
+    ensures { result ≡ interval_or (given_by given.entry) missing }
 {
-    if fields.has(tags::ISHA_INTERVAL) {
-        unsigned(value(order, fields, tags::ISHA_INTERVAL), 0) as i32
-    } else {
-        missing
+    match given.get(tags::ISHA_INTERVAL) {
+        Some(bytes) => unsigned(bytes, 0) as i32,
+        None => missing,
     }
 }
 
 // The method's parameters. Tags 7 to 14 then set one field each, so the interval does not change the Isha angle.
-pub fn parameters_in(order: &[u8], fields: Fields) -> Parameters
-    ensures { result ≡ parameters_in (values_in order.now fields) }
+pub fn parameters_in(given: Given) -> Parameters
+    ensures { result ≡ parameters_in (given_by given.entry) }
 {
-    let preset = Method::of_number(byte(value(order, fields, tags::METHOD), 0)).parameters();
-    let method = preset.method;
-    let rounding = preset.rounding;
-    let method_adjustments = preset.method_adjustments;
+    let preset = Method::of_number(byte(given.value(tags::METHOD), 0)).parameters();
     Parameters {
-        method: method,
-        fajr_angle: degrees_or(order, fields, tags::FAJR_ANGLE, preset.fajr_angle),
-        maghrib_angle: preset.maghrib_angle,
-        isha_angle: degrees_or(order, fields, tags::ISHA_ANGLE, preset.isha_angle),
-        isha_interval: interval_or(order, fields, preset.isha_interval),
-        madhab: Madhab::of_number(byte_or(order, fields, tags::MADHAB, 1)),
+        fajr_angle: degrees_or(given, tags::FAJR_ANGLE, preset.fajr_angle),
+        isha_angle: degrees_or(given, tags::ISHA_ANGLE, preset.isha_angle),
+        isha_interval: interval_or(given, preset.isha_interval),
+        madhab: Madhab::of_number(byte_or(given, tags::MADHAB, 1)),
         high_latitude_rule: HighLatitudeRule::of_number(byte_or(
-            order,
-            fields,
+            given,
             tags::HIGH_LATITUDE_RULE,
             0,
         )),
-        adjustments: minutes_or(order, fields, TimeAdjustment::default()),
-        method_adjustments: method_adjustments,
-        rounding: rounding_or(order, fields, rounding),
-        shafaq: Shafaq::of_number(byte_or(order, fields, tags::SHAFAQ, 0)),
+        adjustments: minutes_or(given, TimeAdjustment::default()),
+        rounding: rounding_or(given, preset.rounding),
+        shafaq: Shafaq::of_number(byte_or(given, tags::SHAFAQ, 0)),
+        ..preset
     }
 }
 
 // Tags 15 and 17. A missing tag is read as 0, the source's rule.
-pub fn rules_in(order: &[u8], fields: Fields) -> Rules
-    ensures { result ≡ rules_in (values_in order.now fields) }
+pub fn rules_in(given: Given) -> Rules
+    ensures { result ≡ rules_in (given_by given.entry) }
 {
     Rules {
-        midnight: Midnight::of_number(byte_or(order, fields, tags::MIDNIGHT, 0)),
-        southern: Southern::of_number(byte_or(order, fields, tags::SOUTHERN, 0)),
+        midnight: Midnight::of_number(byte_or(given, tags::MIDNIGHT, 0)),
+        southern: Southern::of_number(byte_or(given, tags::SOUTHERN, 0)),
     }
 }
 
 // Tag 16: minutes from UTC to the clock that the cells show.
-pub fn clock_in(order: &[u8], fields: Fields) -> i32
-    ensures { result ≡ clock_in (values_in order.now fields) }
+pub fn clock_in(given: Given) -> i32
+    ensures { result ≡ clock_in (given_by given.entry) }
 {
-    if fields.has(tags::CLOCK) {
-        signed(value(order, fields, tags::CLOCK), 0)
-    } else {
-        0
-    }
+    given.get(tags::CLOCK).map_or(0, |bytes| signed(bytes, 0))
 }
 
 // Tag 20: the minutes from imsak to Fajr, and the shift, which is stored plus 1.
-pub fn ramadan_in(order: &[u8], fields: Fields) -> Ramadan
-    ensures { result ≡ ramadan_in (values_in order.now fields) }
+pub fn ramadan_in(given: Given) -> Ramadan
+    ensures { result ≡ ramadan_in (given_by given.entry) }
 {
-    if fields.has(tags::RAMADAN) {
-        let bytes = value(order, fields, tags::RAMADAN);
-        return Ramadan {
+    match given.get(tags::RAMADAN) {
+        Some(bytes) => Ramadan {
             set: true,
             imsak: byte(bytes, 0),
             shift: byte(bytes, 1) as i32 - 1,
-        };
-    }
-    Ramadan {
-        set: false,
-        imsak: 0,
-        shift: 0,
+        },
+        None => Ramadan {
+            set: false,
+            imsak: 0,
+            shift: 0,
+        },
     }
 }

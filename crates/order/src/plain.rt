@@ -3,16 +3,18 @@
 ghost use Rattle.std.specs.Prelude.{◌≡◌};
 ghost use Rattle.order.specs.Reading.{reading_of};
 
-use super::reading::{Reading, answer};
+use super::reading::answer;
+use crate::reading::Order;
 use fields::plain::fields_of;
+use fields::values::Given;
+use refusals::Refusal;
 
-pub fn read(order: &[u8]) -> Reading
+pub fn read(order: &[u8]) -> Result<Order, Refusal>
     ensures { result ≡ reading_of order.now }
 {
-    let checked = fields_of(order);
-    let broken = checked.refusal;
-    if broken.number != 0 {
-        return Reading::Refused(broken);
-    }
-    answer(order, checked.fields)
+    let fields = fields_of(order)?;
+    answer(Given {
+        order,
+        fields: &fields,
+    })
 }

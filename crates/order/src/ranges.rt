@@ -1,6 +1,6 @@
 // The range of each tag's value, inside a right length. Range ends are allowed.
-ghost use Rattle.std.specs.Prelude.{◌≡◌, true, cond, ltb};
-ghost use Rattle.fields.specs.Values.{part_in};
+ghost use Rattle.std.specs.Prelude.{◌≡◌, true, cond};
+ghost use Rattle.fields.specs.Values.{given_by};
 ghost use Rattle.text.specs.Text.{printable};
 ghost use Rattle.order.specs.Ranges.{date_fits, most_in, rows_fit, degrees_fit, minute_fits, minutes_fit, interval_fits, clock_fits};
 ghost use Rattle.order.specs.Ranges.{ramadan_fits, ramadan_rows, fits_in};
@@ -11,7 +11,7 @@ use calendar::dates::Date;
 use fields::numbers::{byte, signed, unsigned};
 use fields::tags;
 use fields::tags::choice_fits;
-use fields::values::{Part, bytes};
+use fields::values::Given;
 use map_form::reading::{latitude_fits, longitude_fits};
 use models::adjustments::TimeAdjustment;
 
@@ -38,17 +38,7 @@ const MOST_STORED_SHIFT: u32 = 2;
 fn text_fits(bytes: &[u8]) -> bool
     ensures { result ≡ printable bytes.now }
 {
-    let mut i = 0;
-    while i < bytes.len() {
-        if bytes[i] < 32 {
-            return false;
-        }
-        if 126 < bytes[i] {
-            return false;
-        }
-        i = i + 1;
-    }
-    true
+    bytes.iter().all(|b| (32 <= *b) & (*b <= 126))
 }
 
 fn date_fits(date: Date) -> bool
@@ -132,10 +122,7 @@ fn ramadan_fits(bytes: &[u8]) -> bool
 fn ramadan_rows(set: bool, bytes: &[u8]) -> bool
     ensures { result ≡ ramadan_rows set bytes.now }
 {
-    if set {
-        return rows_in(bytes) == RAMADAN_ROWS;
-    }
-    true
+    !set || rows_in(bytes) == RAMADAN_ROWS
 }
 
 // The ranges of choices are in the table of tags. The range of rows depends on the order's date too, and on whether it has tag 20.
@@ -161,12 +148,10 @@ fn fits(tag: u32, bytes: &[u8], date: Date, ramadan: bool) -> bool
 }
 
 // Whether the value of a tag is in range. True if the order lacks the tag.
-pub fn in_range(tag: u32, order: &[u8], part: Part, date: Date, ramadan: bool) -> bool
-    ensures { result ≡ cond (ltb 0 part.at) (fits_in tag (part_in order.now part) date ramadan) true }
+pub fn in_range(given: Given, tag: u32, date: Date, ramadan: bool) -> bool
+    ensures { result ≡ cond ((given_by given.entry).has tag) (fits_in tag ((given_by given.entry).value tag) date ramadan) true }
 {
-    if part.at > 0 {
-        fits(tag, bytes(order, part), date, ramadan)
-    } else {
-        true
-    }
+    given
+        .get(tag)
+        .is_none_or(|bytes| fits(tag, bytes, date, ramadan))
 }

@@ -1,9 +1,8 @@
 // Reading an order. The checks, in this order: the form of its fields, missing tags, coordinates in both forms, ranges, the first day of a
 // Ramadan sheet.
 ghost use Rattle.std.specs.Prelude.{◌≡◌};
-ghost use Rattle.fields.specs.Tags.{date_tag};
-ghost use Rattle.fields.specs.Values.{has_in, values_in};
-ghost use Rattle.order.specs.Given.{date_in};
+ghost use Rattle.refusals.specs.Refusals.{unless_refused};
+ghost use Rattle.fields.specs.Values.{given_by};
 ghost use Rattle.order.specs.Reading.{is_given_of, missing_of, both_forms_of, out_of_range_of, order_of, wrong_start_of, first_of, checks_of};
 ghost use Rattle.order.specs.Reading.{reading_of, town_in};
 
@@ -15,7 +14,7 @@ use calendar::dates::Date;
 use fields::one_pass::fields_of;
 use fields::tags;
 use fields::tags::LAST_TAG;
-use fields::values::{Fields, Part, bytes, value};
+use fields::values::{Given, Part, bytes};
 use hijri::ramadan::{Ramadan, is_ramadan_start};
 use models::setting::Setting;
 use refusals::{BOTH_FORMS, NOT_FIRST_OF_RAMADAN, OUT_OF_RANGE, Refusal, TAG_MISSING};
@@ -49,138 +48,114 @@ pub struct Order {
     pub ramadan: Ramadan,
 }
 
-#[derive(Clone, Copy)]
-pub enum Reading {
-    Read(Order),
-    Refused(Refusal),
-}
-
 // Either form keeps a coordinate from being missing.
-fn is_given(fields: Fields, tag: u32) -> bool
-    ensures { result ≡ is_given_of (has_in fields) tag }
+fn is_given(given: Given, tag: u32) -> bool
+    ensures { result ≡ is_given_of (given_by given.entry).has tag }
 {
     match tag {
-        tags::LATITUDE => fields.has(tags::LATITUDE) | fields.has(map_form::LATITUDE),
-        tags::LONGITUDE => fields.has(tags::LONGITUDE) | fields.has(map_form::LONGITUDE),
-        _ => fields.has(tag),
+        tags::LATITUDE => given.has(tags::LATITUDE) | given.has(map_form::LATITUDE),
+        tags::LONGITUDE => given.has(tags::LONGITUDE) | given.has(map_form::LONGITUDE),
+        _ => given.has(tag),
     }
 }
 
-// The refusal of the lowest required tag that is missing.
-fn missing(fields: Fields) -> Refusal
-    ensures { result ≡ missing_of (has_in fields) }
+// Refuses the lowest required tag that is missing.
+fn missing(given: Given) -> Result<(), Refusal>
+    ensures { result ≡ unless_refused (missing_of (given_by given.entry).has) tt }
 {
-    let mut i = 0;
-    while i < 6 {
-        let tag = REQUIRED[i];
-        if !is_given(fields, tag) {
-            return Refusal::new(TAG_MISSING, tag);
+    for tag in REQUIRED {
+        if !is_given(given, tag) {
+            return Err(Refusal::new(TAG_MISSING, tag));
         }
-        i = i + 1;
     }
-    Refusal::none()
+    Ok(())
 }
 
-// The refusal of the first coordinate that is given in both forms, whatever their values are.
-fn both_forms(fields: Fields) -> Refusal
-    ensures { result ≡ both_forms_of (has_in fields) }
+// Refuses the first coordinate that is given in both forms, whatever their values are.
+fn both_forms(given: Given) -> Result<(), Refusal>
+    ensures { result ≡ unless_refused (both_forms_of (given_by given.entry).has) tt }
 {
-    if fields.has(tags::LATITUDE) & fields.has(map_form::LATITUDE) {
-        return Refusal::new(BOTH_FORMS, map_form::LATITUDE);
+    if given.has(tags::LATITUDE) & given.has(map_form::LATITUDE) {
+        return Err(Refusal::new(BOTH_FORMS, map_form::LATITUDE));
     }
-    if fields.has(tags::LONGITUDE) & fields.has(map_form::LONGITUDE) {
-        return Refusal::new(BOTH_FORMS, map_form::LONGITUDE);
+    if given.has(tags::LONGITUDE) & given.has(map_form::LONGITUDE) {
+        return Err(Refusal::new(BOTH_FORMS, map_form::LONGITUDE));
     }
-    Refusal::none()
+    Ok(())
 }
 
-// The refusal of the lowest tag whose value is out of range. The date is passed on, since the record has read it.
-fn out_of_range(order: &[u8], fields: Fields, date: Date) -> Refusal
-    requires { date ≡ date_in ((values_in order.now fields).value date_tag) }
-    ensures { result ≡ out_of_range_of (values_in order.now fields) }
+// Refuses the lowest tag whose value is out of range.
+fn out_of_range(given: Given) -> Result<(), Refusal>
+    ensures { result ≡ unless_refused (out_of_range_of (given_by given.entry)) tt }
 {
-    let ramadan = fields.has(tags::RAMADAN);
-    let mut passed = 0;
-    while passed < LAST_TAG {
-        let tag = passed + 1;
-        let row = tag as usize;
-        let part = Part {
-            at: fields.at[row] as u32,
-            length: fields.length[row] as u32,
-        };
-        if !in_range(tag, order, part, date, ramadan) {
-            return Refusal::new(OUT_OF_RANGE, tag);
+    let date = date_in(given.value(tags::DATE));
+    let ramadan = given.has(tags::RAMADAN);
+    for tag in 1..=LAST_TAG {
+        if !in_range(given, tag, date, ramadan) {
+            return Err(Refusal::new(OUT_OF_RANGE, tag));
         }
-        passed = tag;
     }
-    Refusal::none()
+    Ok(())
 }
 
-fn record_in(order: &[u8], fields: Fields) -> Order
-    ensures { result ≡ order_of (values_in order.now fields) }
+fn record_in(given: Given) -> Order
+    ensures { result ≡ order_of (given_by given.entry) }
 {
     Order {
-        town: fields.part(tags::TOWN),
-        date: date_in(value(order, fields, tags::DATE)),
-        rows: rows_in(value(order, fields, tags::ROWS)),
+        town: given.part(tags::TOWN),
+        date: date_in(given.value(tags::DATE)),
+        rows: rows_in(given.value(tags::ROWS)),
         setting: Setting {
             coordinates: Coordinates::new(
-                coordinate_in(order, fields, tags::LATITUDE, map_form::LATITUDE),
-                coordinate_in(order, fields, tags::LONGITUDE, map_form::LONGITUDE),
+                coordinate_in(given, tags::LATITUDE, map_form::LATITUDE),
+                coordinate_in(given, tags::LONGITUDE, map_form::LONGITUDE),
             ),
-            parameters: parameters_in(order, fields),
-            rules: rules_in(order, fields),
+            parameters: parameters_in(given),
+            rules: rules_in(given),
         },
-        clock: clock_in(order, fields),
-        ramadan: ramadan_in(order, fields),
+        clock: clock_in(given),
+        ramadan: ramadan_in(given),
     }
 }
 
-// The refusal of a Ramadan sheet that does not begin on the 1st of Ramadan, moved by its shift. Its place is the tag of the date.
-fn wrong_start(ramadan: Ramadan, date: Date) -> Refusal
-    ensures { result ≡ wrong_start_of ramadan date }
+// Refuses a Ramadan sheet that does not begin on the 1st of Ramadan, moved by its shift. The place is the tag of the date.
+fn wrong_start(ramadan: Ramadan, date: Date) -> Result<(), Refusal>
+    ensures { result ≡ unless_refused (wrong_start_of ramadan date) tt }
 {
-    if ramadan.set {
-        if is_ramadan_start(date.day_number(), ramadan.shift) {
-            return Refusal::none();
-        }
-        return Refusal::new(NOT_FIRST_OF_RAMADAN, tags::DATE);
+    if ramadan.set && !is_ramadan_start(date.day_number(), ramadan.shift) {
+        return Err(Refusal::new(NOT_FIRST_OF_RAMADAN, tags::DATE));
     }
-    Refusal::none()
+    Ok(())
 }
 
 // Reads fields whose form is right. Both readers use it after they have collected them.
-pub(crate) fn answer(order: &[u8], fields: Fields) -> Reading
-    ensures { result ≡ first_of (checks_of (values_in order.now fields)) (order_of (values_in order.now fields)) }
+pub(crate) fn answer(given: Given) -> Result<Order, Refusal>
+    ensures { result ≡ first_of (checks_of (given_by given.entry)) (order_of (given_by given.entry)) }
 {
-    let record = record_in(order, fields);
-    let refusal = missing(fields)
-        .or(both_forms(fields))
-        .or(out_of_range(order, fields, record.date))
-        .or(wrong_start(record.ramadan, record.date));
-    if refusal.number != 0 {
-        return Reading::Refused(refusal);
-    }
-    Reading::Read(record)
+    missing(given)?;
+    both_forms(given)?;
+    out_of_range(given)?;
+    let record = record_in(given);
+    wrong_start(record.ramadan, record.date)?;
+    Ok(record)
 }
 
-pub fn read(order: &[u8]) -> Reading
+pub fn read(order: &[u8]) -> Result<Order, Refusal>
     ensures { result ≡ reading_of order.now }
 {
-    let checked = fields_of(order);
-    let broken = checked.refusal;
-    if broken.number != 0 {
-        return Reading::Refused(broken);
-    }
-    answer(order, checked.fields)
+    let fields = fields_of(order)?;
+    answer(Given {
+        order,
+        fields: &fields,
+    })
 }
 
 // The town's name, as that part of the order itself; an empty part if the order is refused.
-pub fn town(order: &[u8], reading: Reading) -> &[u8]
+pub fn town(order: &[u8], reading: Result<Order, Refusal>) -> &[u8]
     ensures { result.now ≡ town_in order.now reading }
 {
     match reading {
-        Reading::Read(record) => bytes(order, record.town),
-        Reading::Refused(_) => &order[0..0],
+        Ok(record) => bytes(order, record.town),
+        Err(_) => &order[0..0],
     }
 }

@@ -1,4 +1,7 @@
 -- A place sent either way gives the same record but for where the town is, and so every call returns the same. Assumes nothing.
+use Rattle.std.specs.Prelude.{Err, Ok, Option, Result, ℤ}
+use Rattle.schedule.specs.declared.prayer_times.PrayerTimes.{PrayerTimes}
+use Rattle.refusals.specs.declared.Refusal.{Refusal}
 use Rattle.prelude.proofs.Logic.{◌≡◌, refl, sym, ap, ◌∙◌, fun_ext, true, false, List, ◌∷◌, ◌++◌, ℕ, zero, suc, ◌+◌, ◌≤◌, leb, leb-true}
 use Rattle.float64.proofs.Floats.{Float}
 use Rattle.calendar.specs.Answers.{row_date_of}
@@ -10,7 +13,7 @@ use Rattle.lines.specs.Lines.{line_text}
 use Rattle.models.specs.{declared.prayer.Prayer.Prayer}
 use Rattle.order.specs.Given.{byte_or, degrees_or, rounding_or, minutes_or, interval_or, parameters_in, rules_in, clock_in, ramadan_in}
 use Rattle.order.specs.Reading.{order_of, reading_of, town_of}
-use Rattle.order.specs.declared.reading.{Order.Order, Reading.TheVariants.Read}
+use Rattle.order.specs.declared.reading.{Order.Order}
 use Rattle.order.proofs.ReadingLaws.{read_passed, town_value}
 use Rattle.braille.specs.Cells.{row_length}
 use Rattle.pages.specs.Pages.{Rows, row_of, rows_from, page_of, page_count, pages_cells, all_cells}
@@ -18,11 +21,9 @@ use Rattle.pages.specs.Answers.{asked_call_of, one_row, piece_in}
 use Rattle.pages.specs.Reports.{wear_text, cells_text}
 use Rattle.reports.specs.Reports.{report_in}
 use Rattle.sheets.specs.Rows.{lines_text, accepted_text, sheet_text, read_call_of, row_call_of}
-use Rattle.schedule.specs.declared.{in_force.Instant.Instant, prayer_times.Worked.Worked}
-use Rattle.schedule.specs.declared.prayer_times.Worked.TheVariants.{Times, Refused}
+use Rattle.schedule.specs.declared.{in_force.Instant.Instant}
 use Rattle.weeks.specs.Lines.{report_of}
 use Rattle.weeks.specs.Report.{minute_in, row_minute, orders_report, week_text}
-use Rattle.weeks.specs.declared.minutes.Minute.{Minute}
 use Rattle.order_laws.specs.EitherForm.{says_place, SamePlace, with_town, SameAnswers, EitherFormAnswersAlike, EitherFormMovesAlike}
 
 -- ---- where the town is in the bytes changes nothing
@@ -50,10 +51,10 @@ unfolding pages_cells
 pages_same o town zero = refl
 pages_same o town (suc p) = rw (pages_same o town p, page_same o town (suc p))
 
-minute_same : (o : Order) (town : Part) (row : ℕ) (w : Worked) → minute_in (with_town o town) row w ≡ minute_in o row w
+minute_same : (o : Order) (town : Part) (row : ℕ) (w : Result PrayerTimes Refusal) → minute_in (with_town o town) row w ≡ minute_in o row w
 unfolding minute_in
-minute_same o town row (Times t) = refl
-minute_same o town row (Refused r) = refl
+minute_same o town row (Ok t) = refl
+minute_same o town row (Err r) = refl
 
 minutes_same : (o : Order) (town : Part) → row_minute (with_town o town) ≡ row_minute o
 unfolding work_row_of
@@ -68,7 +69,7 @@ piece_same : (page first : ℕ) (scratch : List ℕ) (o : Order) (town : Part)
 piece_same page first scratch o town = rw (page_same o town page)
 
 -- ---- what the calls return for two orders whose records are the same but for where the town is
-module _ (a b : List ℕ) (o p : Order) (x : reading_of a ≡ Read o) (y : reading_of b ≡ Read p) (given : with_town o p.town ≡ p)
+module _ (a b : List ℕ) (o p : Order) (x : reading_of a ≡ Ok o) (y : reading_of b ≡ Ok p) (given : with_town o p.town ≡ p)
     (town : town_of a ≡ town_of b) where
   sheet-same : sheet_text a ≡ sheet_text b
   unfolding report_in
@@ -101,7 +102,7 @@ module _ (a b : List ℕ) (o p : Order) (x : reading_of a ≡ Read o) (y : readi
   unfolding report_in
   week-same =
       rw (x, y)
-      (ap (λ (f : ℕ → Minute). report_of f o.rows) (sym (minutes_same o p.town)) ∙ ap orders_report given)
+      (ap (λ (f : ℕ → Option ℤ). report_of f o.rows) (sym (minutes_same o p.town)) ∙ ap orders_report given)
 
   -- a call on some rows of an order that do not depend on its town
   asked-same : (asked : Order → Rows) → ((town : Part) → asked (with_town o town) ≡ asked o) → (buffer : List ℕ)

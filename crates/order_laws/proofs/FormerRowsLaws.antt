@@ -1,4 +1,6 @@
 -- An order that was read by document 01 alone is still read as it was. Assumes nothing.
+use Rattle.std.specs.Prelude.{Err, Ok, Result}
+use Rattle.schedule.specs.declared.prayer_times.PrayerTimes.{PrayerTimes}
 use Rattle.prelude.proofs.Logic.{◌≡◌, refl, sym, ap, ◌∙◌, Bool, true, false, not, cond, ◌&&◌, ◌||◌, List, [], ◌∷◌, ℕ, zero, suc}
 use Rattle.prelude.proofs.Logic.{◌-◌, ◌≤◌, ◌<◌, arith, leb, ltb, eqb, lit≤, length, get_or, set, replicate, inl, inr, ◌⊎◌, ltb-true, lt-ltb}
 use Rattle.prelude.proofs.Logic.{leb-true, leb-false, eq-eqb, eqb-true, eqb-false, ne_eqb, le-leb, lt-leb, not-false, cases, both, ⊎_elim}
@@ -16,13 +18,11 @@ use Rattle.order.specs.Given.{date_in, rows_in, coordinate_in, byte_or, rules_in
 use Rattle.order.specs.Ranges.{between, rows_fit, ramadan_rows, look_up, fits_of, in_range_of}
 use Rattle.order.specs.Reading.{first_failing, required, is_given_of, missing_of, both_forms_of, tags_from, out_of_range_of, order_of, wrong_start_of}
 use Rattle.order.specs.{Reading.first_of, Reading.reading_of, declared.reading.Order.Order}
-use Rattle.order.specs.declared.reading.Reading.TheVariants as reading
 use Rattle.order.proofs.ReadingLaws.{passed_on, town_value}
 use Rattle.refusals.specs.{Refusals.no_refusal, declared.Refusal.Refusal}
 use Rattle.reports.specs.Reports.{report_in}
 use Rattle.sheets.specs.Rows.{header_text, head_text, lines_text, accepted_text, sheet_text}
-use Rattle.schedule.specs.{Times.worked_at, declared.prayer_times.Worked.Worked}
-use Rattle.schedule.specs.declared.prayer_times.Worked.TheVariants as worked
+use Rattle.schedule.specs.{Times.worked_at}
 use Rattle.days.specs.Calls.{work_row_of}
 use Rattle.order_laws.specs.FormerRows.{former_length_fits, former_fault_of, former_walk_of, former_check_of, former_rows_fit, former_in_range}
 use Rattle.order_laws.specs.FormerRows.{former_setting, former_order_of, former_reading_of, former_line, former_lines, former_text, new_at}
@@ -85,10 +85,10 @@ module _ (tag n left : ℕ) (again : Bool) where
           (λ low. simp low)
 
 -- a line with no imsak
-line_same : (date : Date) (w : Worked) → line_text no_ramadan date w ≡ former_line date w
+line_same : (date : Date) (w : Result PrayerTimes Refusal) → line_text no_ramadan date w ≡ former_line date w
 unfolding line_text columns_of former_line
-line_same date (worked.Times t) = refl
-line_same date (worked.Refused r) = refl
+line_same date (Ok t) = refl
+line_same date (Err r) = refl
 
 module _ (s : List ℕ) where
   fault-same : (seen : List Bool) (at : ℕ)
@@ -241,7 +241,7 @@ module _ (s : List ℕ) where
   unfolding reading_of former_reading_of first_of
   refused-same h f = rw (← f, h)
 
-  new-refused : eqb (former_check_of s).number 0 ≡ false → former_reading_of s ≡ reading.Refused (former_check_of s)
+  new-refused : eqb (former_check_of s).number 0 ≡ false → former_reading_of s ≡ Err (former_check_of s)
   unfolding former_reading_of first_of
   new-refused h = simp h
 
@@ -260,7 +260,7 @@ module _ (s : List ℕ) where
   unfolding accepted_text former_text head_text header_text former_order_of
   text_same town = rw (lines_same former.rows (omega arith))
 
-  accepted-order : (o : Order) → former_reading_of s ≡ reading.Read o → ((former_check_of s).number ≡ 0) × (former ≡ o)
+  accepted-order : (o : Order) → former_reading_of s ≡ Ok o → ((former_check_of s).number ≡ 0) × (former ≡ o)
   unfolding former_reading_of first_of
   accepted-order o e =
       let v = values_of s in
@@ -269,10 +269,10 @@ module _ (s : List ℕ) where
       let a = passed_on (former_check_of s) (missing ∷ ranges ∷ []) former o e in
       let b = passed_on missing (ranges ∷ []) former o a.1 in
       let c = passed_on ranges [] former o b.1 in
-      let same : reading.Read former ≡ reading.Read o = c.1 in
+      let same : Ok former ≡ Ok o = c.1 in
       (a.0, cc)
 
-  sheet-same : (o : Order) → former ≡ o → reading_of s ≡ reading.Read o → sheet_text s ≡ former_text (value_of s 1) o
+  sheet-same : (o : Order) → former ≡ o → reading_of s ≡ Ok o → sheet_text s ≡ former_text (value_of s 1) o
   unfolding report_in
   sheet-same o f e = rw (town_value s o e) (simp e (rw (← f) (text_same (value_of s 1))))
 

@@ -1,4 +1,5 @@
 -- Demand 3: from the bytes of two orders to the parameters of one row's day, for which crates/schedule_laws proves it. Assumes nothing.
+use Rattle.std.specs.Prelude.{Err, Ok, Option, Result}
 use Rattle.prelude.proofs.Logic.{◌≡◌, refl, sym, ap, subst, ◌∙◌, true, ◌&&◌, List, ℕ, ◌*◌, ◌<◌, ◌^◌, arith, ltb}
 use Rattle.prelude.proofs.Logic.{leb, ℤ, pos, ◌+ℤ◌, ◌-ℤ◌, le_z, leb-true, both, cases}
 use Rattle.integers.proofs.Integers.{P, N, Near, same, sum, difference, le_yes, to_le}
@@ -10,18 +11,14 @@ use Rattle.lines.specs.Lines.{imsak_of}
 use Rattle.models.specs.declared.prayer.Prayer.TheVariants.{Fajr}
 use Rattle.refusals.specs.declared.Refusal.{Refusal}
 use Rattle.models.specs.Settings.{time_adjustments_of}
-use Rattle.order.specs.{declared.reading.Order.Order, declared.reading.Reading.Reading, Accepted.Accepted, Reading.reading_of}
-use Rattle.order.specs.declared.reading.Reading.TheVariants.{Read}
+use Rattle.order.specs.{declared.reading.Order.Order, Accepted.Accepted, Reading.reading_of}
 use Rattle.order.proofs.AcceptedLaws.{read_accepted}
-use Rattle.schedule.specs.declared.{in_force.Current.Current, in_force.Instant.Instant, prayer_times.PrayerTimes.PrayerTimes}
-use Rattle.schedule.specs.declared.{prayer_times.Worked.Worked}
-use Rattle.schedule.specs.declared.prayer_times.Worked.TheVariants as worked
+use Rattle.schedule.specs.declared.{in_force.Instant.Instant, prayer_times.PrayerTimes.PrayerTimes}
 use Rattle.schedule.proofs.Schedule.{current_time_of}
 use Rattle.schedule_laws.specs.Later.{with_minutes, later_by, LaterMinutes, Moved}
 use Rattle.schedule_laws.proofs.OrderMinutes.{sums-held}
 use Rattle.order_laws.proofs.PrintedLaws.{row_imsak}
 use Rattle.schedule_laws.proofs.LaterLaws.{refused_alike, later_minutes_move_the_row}
-use Rattle.days.specs.declared.in_force.InForce.TheVariants as force
 use Rattle.days.specs.Calls.{lacks_row, work_row_of, work_reading_of, work_day_of, least_seconds, most_seconds, most_nanoseconds, instant_fits}
 use Rattle.days.specs.Calls.{work_at_of, in_force_of, prayer_at_of}
 use Rattle.order_laws.specs.Minutes.{with_own_minutes, LaterOrder, ImsakMoved, LaterOrdersMoveTheirRows}
@@ -50,20 +47,20 @@ module _ (first : Order) (town : Part) (minutes : TimeAdjustment) (row : ℕ) wh
       (λ t. simp t (refused_alike p q lacks_row))
 
 -- ---- what naming the prayer returns
-prayer_times : (w : Worked) (i : Instant) (x : Current) → in_force_of w i ≡ force.Prayer x
-    → (times : PrayerTimes) × (w ≡ worked.Times times) × (current_time_of times i ≡ x)
+prayer_times : (w : Result PrayerTimes Refusal) (i : Instant) (x : Option Prayer) → in_force_of w i ≡ Ok x
+    → (times : PrayerTimes) × (w ≡ Ok times) × (current_time_of times i ≡ x)
 unfolding in_force_of
-prayer_times (worked.Times t) i x e = (t, refl, cc)
-prayer_times (worked.Refused r) i x e = let z : ◌≡◌ {A = ℕ} 0 1 = cc in absurd (omega arith)
+prayer_times (Ok t) i x e = (t, refl, cc)
+prayer_times (Err r) i x e = let z : ◌≡◌ {A = ℕ} 0 1 = cc in absurd (omega arith)
 
-refused_day : (w : Worked) (i : Instant) (r : Refusal) → in_force_of w i ≡ force.Refused r → w ≡ worked.Refused r
+refused_day : (w : Result PrayerTimes Refusal) (i : Instant) (r : Refusal) → in_force_of w i ≡ Err r → w ≡ Err r
 unfolding in_force_of
-refused_day (worked.Times t) i r e = cc
-refused_day (worked.Refused x) i r e = cc
+refused_day (Ok t) i r e = cc
+refused_day (Err x) i r e = cc
 
-day_refused : (w : Worked) (i : Instant) (r : Refusal) → w ≡ worked.Refused r → in_force_of w i ≡ force.Refused r
+day_refused : (w : Result PrayerTimes Refusal) (i : Instant) (r : Refusal) → w ≡ Err r → in_force_of w i ≡ Err r
 unfolding in_force_of
-day_refused w i r e = ap (λ (x : Worked). in_force_of x i) e
+day_refused w i r e = ap (λ (x : Result PrayerTimes Refusal). in_force_of x i) e
 
 asked : (s : List ℕ) (row : ℕ) (i : Instant) → instant_fits i ≡ true → prayer_at_of s row i ≡ in_force_of (work_day_of s row) i
 unfolding prayer_at_of work_at_of
@@ -71,8 +68,8 @@ asked s row i h = rw h
 
 -- a day that is refused at one instant is refused at every other
 refused_at_every : (s z : List ℕ) (row : ℕ) (i j : Instant) (r : Refusal) → instant_fits i ≡ true → instant_fits j ≡ true
-    → (work_day_of s row ≡ worked.Refused r → work_day_of z row ≡ worked.Refused r) → prayer_at_of s row i ≡ force.Refused r
-    → prayer_at_of z row j ≡ force.Refused r
+    → (work_day_of s row ≡ Err r → work_day_of z row ≡ Err r) → prayer_at_of s row i ≡ Err r
+    → prayer_at_of z row j ≡ Err r
 refused_at_every s z row i j r hi hj alike e =
     asked z row j hj ∙ day_refused (work_day_of z row) j r (alike (refused_day (work_day_of s row) i r (sym (asked s row i hi) ∙ e)))
 
@@ -84,9 +81,9 @@ less_than_a_second i h =
     omega arith
 
 -- ---- the theorem
-day_of_lem : (s : List ℕ) (o : Order) (row : ℕ) → reading_of s ≡ Read o → work_day_of s row ≡ work_row_of o row
+day_of_lem : (s : List ℕ) (o : Order) (row : ℕ) → reading_of s ≡ Ok o → work_day_of s row ≡ work_row_of o row
 unfolding work_day_of work_reading_of
-day_of_lem s o row e = ap (λ (x : Reading). work_reading_of x row) e
+day_of_lem s o row e = ap (λ (x : Result Order Refusal). work_reading_of x row) e
 
 module _ (a b : List ℕ) (orders : LaterOrder a b) (row : ℕ) where
   p : Parameters
@@ -125,7 +122,7 @@ kept f g m h =
     to_le (f -ℤ pos m) (g -ℤ pos m) (omega (arith, a.0, a.1, b.0, b.1))
 
 module _ (a b : List ℕ) (orders : LaterOrder a b) (row : ℕ) (t u : PrayerTimes)
-    (at : work_day_of a row ≡ worked.Times t) (bu : work_day_of b row ≡ worked.Times u) where
+    (at : work_day_of a row ≡ Ok t) (bu : work_day_of b row ≡ Ok u) where
   ramadan-same : orders.second.ramadan ≡ orders.first.ramadan
   ramadan-same = sym (ap (λ (o : Order). o.ramadan) orders.alike)
 

@@ -1,4 +1,7 @@
--- Nothing that a school sends breaks a run. Assumes nothing.
+-- None that a school sends breaks a run. Assumes nothing.
+use Rattle.std.specs.Prelude.{Err, Ok, Result}
+use Rattle.schedule.specs.declared.prayer_times.PrayerTimes.{PrayerTimes}
+use Rattle.solar.specs.declared.times.SolarTime.{SolarTime}
 use Rattle.prelude.proofs.Logic.{◌≡◌, refl, sym, ap, ◌∙◌, subst, true, false, true≢false, List, [], ◌∷◌, ◌++◌, append_assoc, append-nil, ℕ}
 use Rattle.prelude.proofs.Logic.{zero, suc, ◌+◌, ◌-◌, ◌/◌, ◌≤◌, ◌<◌, arith, leb, ltb, eqb, lit≤, length, take, drop, ltb-true, ltb-false}
 use Rattle.prelude.proofs.Logic.{lt-ltb, leb-true, eq-eqb, ne_eqb, eqb-true, eqb-false, take-nil, drop_of_length-le, cases, arms}
@@ -10,10 +13,9 @@ use Rattle.days.specs.Calls.{work_date_of, work_row_of, work_reading_of, work_da
 use Rattle.fields.specs.{Fields.check_of, Values.values_of}
 use Rattle.lines.specs.Lines.{full_row, row_room, line_text}
 use Rattle.lines.proofs.LinesLaws.{columns_length}
-use Rattle.models.specs.declared.{parameters.Parameters.Parameters, rules.Midnight.Midnight, rules.Season.Season}
+use Rattle.models.specs.declared.{parameters.Parameters.Parameters, rules.Season.Season}
 use Rattle.order.specs.Reading.{checks_of, order_of, first_of, reading_of, town_of}
-use Rattle.order.specs.declared.reading.{Order.Order, Reading.Reading}
-use Rattle.order.specs.declared.reading.Reading.TheVariants as reading
+use Rattle.order.specs.declared.reading.{Order.Order}
 use Rattle.order.proofs.ReadingLaws.{Refusing, refused_by}
 use Rattle.pages.specs.Answers as pages
 use Rattle.pages.specs.Answers.{put_call_of, asked_call_of, one_row, piece_in}
@@ -24,13 +26,11 @@ use Rattle.reports.specs.Reports.{report_in}
 use Rattle.sheets.proofs.Answers.{row-short, row_read, row-refused}
 use Rattle.sheets.specs.Rows.{worked_call_of, read_call_of, row_call_of, head_text, lines_text, accepted_text, sheet_text}
 use Rattle.schedule.proofs.Schedule.{suns_of, hours_of, numbers_of, season_of, started_in, since_from, since_of}
-use Rattle.schedule.specs.declared.{hours.RowHours.RowHours, hours.RowNumbers.RowNumbers, prayer_times.Worked.Worked}
-use Rattle.schedule.specs.declared.prayer_times.Worked.TheVariants as worked
+use Rattle.schedule.specs.declared.{hours.RowHours.RowHours, hours.RowNumbers.RowNumbers}
 use Rattle.sentences.specs.{Sentences.sentence_of, Sentences.sentence_call_of, Table.known}
-use Rattle.solar.specs.Times.{day_of, solar_time_of, solar_hour_of}
-use Rattle.solar.specs.declared.{hours.HourNumbers.HourNumbers, setting.SolarHour.SolarHour}
-use Rattle.solar.specs.declared.{setting.SolarHour.TheVariants.Some, setting.SolarHour.TheVariants.Nothing, times.SolarDay.SolarDay}
-use Rattle.solar.specs.declared.times.SolarDay.TheVariants as sun
+use Rattle.solar.specs.Times.{missing_number_of, solar_time_of}
+use Rattle.solar.specs.declared.times.Missing.{Missing}
+use Rattle.solar.specs.declared.times.Missing.TheVariants.{Transit, Sunrise, Sunset}
 use Rattle.text.specs.Text.{front_of}
 use Rattle.order_laws.specs.NothingBreaks.{order_numbers, day_numbers, FirstBroken, FirstLacking, three_days, RefusedDay, row_line}
 use Rattle.order_laws.specs.NothingBreaks.{each_of, instead_of, OthersStay, Lent, written_for, NothingBreaksARun}
@@ -49,7 +49,7 @@ is_listed (suc (suc (suc (suc (suc (suc k)))))) h =
     cases (eqb k 12) (λ e. let n = eqb-true k 12 e in rw n refl)
     (λ e. let n = eqb-false k 12 e in let f : k ≡ 9 = omega (arith, l.most, l.otherwise (omega (arith, l.most))) in rw f refl)
 
-first_broken : (rules : List Refusal) (o : Order) (r : Refusal) → first_of rules o ≡ reading.Refused r → FirstBroken r rules
+first_broken : (rules : List Refusal) (o : Order) (r : Refusal) → first_of rules o ≡ Err r → FirstBroken r rules
 unfolding first_of
 first_broken [] o r e = let z : ◌≡◌ {A = ℕ} 0 1 = cc in absurd (omega arith)
 first_broken (q ∷ rest) o r e =
@@ -57,60 +57,53 @@ first_broken (q ∷ rest) o r e =
     (λ h. let same : q ≡ r = cc in subst (λ (x : Refusal). FirstBroken r (x ∷ rest)) (sym same) (FirstBroken.here (rw same at h)))
 
 -- ---- a day
-lacked : (t r s : SolarHour) (n : ℕ) → day_of t r s ≡ sun.Lacks n → listed day_numbers n ≡ true
-unfolding day_of listed
-lacked Nothing r s n e = let same : 6 ≡ n = cc in rw (sym same) refl
-lacked (Some t) Nothing s n e = let same : 7 ≡ n = cc in rw (sym same) refl
-lacked (Some t) (Some r) Nothing n e = let same : 8 ≡ n = cc in rw (sym same) refl
-lacked (Some t) (Some r) (Some s) n e = let z : ◌≡◌ {A = ℕ} 0 1 = cc in absurd (omega arith)
-
-lacks_number : (rule : Midnight) (n : HourNumbers) (k : ℕ) → solar_time_of rule n ≡ sun.Lacks k → listed day_numbers k ≡ true
-unfolding solar_time_of
-lacks_number rule n k e = lacked (solar_hour_of rule n.transit) (solar_hour_of rule n.sunrise) (solar_hour_of rule n.sunset) k e
+lacked : (missing : Missing) → listed day_numbers (missing_number_of missing) ≡ true
+unfolding listed
+lacked Transit = refl
+lacked Sunrise = refl
+lacked Sunset = refl
 
 -- a row is refused by the first of its days that lacks a time, and only by it
 module _ (h : RowHours) (date : Date) (season : Season) (p : Parameters) (r : Refusal) where
-  abbrev Listed : SolarDay → Type 0
-  Listed day = (k : ℕ) → day ≡ sun.Lacks k → listed day_numbers k ≡ true
-
-  by_days : (a b c : SolarDay) → Listed a → Listed b → Listed c
-      → started_in date (since_from (suns_of a b c) h date season p) ≡ worked.Refused r
+  by_days : (a b c : Result SolarTime Missing) → started_in date (since_from (suns_of a b c) h date season p) ≡ Err r
       → (listed day_numbers r.number ≡ true) × (r.place ≤ 2) × FirstLacking r.number r.place (a ∷ b ∷ c ∷ [])
   unfolding started_in since_from suns_of
-  by_days (sun.Lacks n) b c x y z e = let same : refusal n 0 ≡ r = cc in rw (← same) (x n refl, lit≤ tt, FirstLacking.here)
-  by_days (sun.Whole t) (sun.Lacks n) c x y z e =
-      let same : refusal n 1 ≡ r = cc in rw (← same) (y n refl, lit≤ tt, FirstLacking.later FirstLacking.here)
-  by_days (sun.Whole t) (sun.Whole u) (sun.Lacks n) x y z e =
-      let same : refusal n 2 ≡ r = cc in rw (← same) (z n refl, lit≤ tt, FirstLacking.later (FirstLacking.later FirstLacking.here))
-  by_days (sun.Whole t) (sun.Whole u) (sun.Whole v) x y z e = let w : ◌≡◌ {A = ℕ} 0 1 = cc in absurd (omega arith)
+  by_days (Err m) b c e =
+      let same : refusal (missing_number_of m) 0 ≡ r = cc in rw (← same) (lacked m, lit≤ tt, FirstLacking.here refl)
+  by_days (Ok t) (Err m) c e =
+      let same : refusal (missing_number_of m) 1 ≡ r = cc in
+      rw (← same) (lacked m, lit≤ tt, FirstLacking.later (FirstLacking.here refl))
+  by_days (Ok t) (Ok u) (Err m) e =
+      let same : refusal (missing_number_of m) 2 ≡ r = cc in
+      rw (← same) (lacked m, lit≤ tt, FirstLacking.later (FirstLacking.later (FirstLacking.here refl)))
+  by_days (Ok t) (Ok u) (Ok v) e = let w : ◌≡◌ {A = ℕ} 0 1 = cc in absurd (omega arith)
 
-  by-lacking : {number place : ℕ} {a b c : SolarDay} → FirstLacking number place (a ∷ b ∷ c ∷ [])
-      → started_in date (since_from (suns_of a b c) h date season p) ≡ worked.Refused (refusal number place)
+  by-lacking : {number place : ℕ} {a b c : Result SolarTime Missing} → FirstLacking number place (a ∷ b ∷ c ∷ [])
+      → started_in date (since_from (suns_of a b c) h date season p) ≡ Err (refusal number place)
   unfolding started_in since_from suns_of
-  by-lacking FirstLacking.here = refl
-  by-lacking (FirstLacking.later FirstLacking.here) = refl
-  by-lacking (FirstLacking.later (FirstLacking.later FirstLacking.here)) = refl
+  by-lacking (FirstLacking.here e) = ap (λ (n : ℕ). Err (refusal n 0)) e
+  by-lacking (FirstLacking.later (FirstLacking.here e)) = ap (λ (n : ℕ). Err (refusal n 1)) e
+  by-lacking (FirstLacking.later (FirstLacking.later (FirstLacking.here e))) = ap (λ (n : ℕ). Err (refusal n 2)) e
   by-lacking (FirstLacking.later (FirstLacking.later (FirstLacking.later x))) = elim x [ ]
 
 module _ (o : Order) (date : Date) (r : Refusal) where
   abbrev numbers : RowNumbers
   numbers = numbers_of date o.setting.coordinates o.setting.parameters
 
-  pub refused_day : work_date_of o date ≡ worked.Refused r → RefusedDay o date r
+  pub refused_day : work_date_of o date ≡ Err r → RefusedDay o date r
   unfolding started_in since_of since_from hours_of
   refused_day e =
       let rule = o.setting.rules.midnight in
       let f = by_days (hours_of rule numbers) date (season_of o.setting) o.setting.parameters r
-      (solar_time_of rule numbers.today) (solar_time_of rule numbers.tomorrow) (solar_time_of rule numbers.after)
-      (lacks_number rule numbers.today) (lacks_number rule numbers.tomorrow) (lacks_number rule numbers.after) e in
+      (solar_time_of rule numbers.today) (solar_time_of rule numbers.tomorrow) (solar_time_of rule numbers.after) e in
       record { number = f.0; place = f.1; lacking = f.2 }
 
-  lacking-day : FirstLacking r.number r.place (three_days o date) → work_date_of o date ≡ worked.Refused r
+  lacking-day : FirstLacking r.number r.place (three_days o date) → work_date_of o date ≡ Err r
   unfolding started_in since_of since_from hours_of
   lacking-day l = by-lacking (hours_of o.setting.rules.midnight numbers) date (season_of o.setting) o.setting.parameters r l
 
 -- working a row that the order has is working its date
-row_of : (s : List ℕ) (o : Order) (row : ℕ) → reading_of s ≡ reading.Read o → row < o.rows
+row_of : (s : List ℕ) (o : Order) (row : ℕ) → reading_of s ≡ Ok o → row < o.rows
     → work_day_of s row ≡ work_date_of o (row_date_of o.date row)
 unfolding work_day_of work_reading_of work_row_of
 row_of s o row e h = simp (e, lt-ltb row o.rows h)
@@ -121,7 +114,7 @@ unfolding lines_text each_of work_row_of
 lines_each o zero h = refl
 lines_each o (suc n) h = rw (lines_each o n (omega arith), lt-ltb n o.rows (omega arith))
 
-sheet_each : (s : List ℕ) (o : Order) → reading_of s ≡ reading.Read o → sheet_text s ≡ head_text o.ramadan (town_of s)
+sheet_each : (s : List ℕ) (o : Order) → reading_of s ≡ Ok o → sheet_text s ≡ head_text o.ramadan (town_of s)
     ++ each_of (row_line o) o.rows
 unfolding report_in accepted_text
 sheet_each s o e = rw (e, lines_each o o.rows (omega arith))
@@ -134,7 +127,7 @@ written_lent : {text buffer : List ℕ} → length text ≤ length buffer → Le
 written_lent h = record { refused = λ e. absurd (true≢false e); written = λ e. (h, refl) }
 
 -- a number of an order, of a row or of a day is not 0
-pub order_number : (s : List ℕ) (r : Refusal) → reading_of s ≡ reading.Refused r → eqb r.number 0 ≡ false
+pub order_number : (s : List ℕ) (r : Refusal) → reading_of s ≡ Err r → eqb r.number 0 ≡ false
 order_number s r e = let h = (refused_by s r e).some in ne_eqb r.number 0 (omega arith)
 
 pub day_number : (n : ℕ) → listed day_numbers n ≡ true → eqb n 0 ≡ false
@@ -143,12 +136,12 @@ day_number zero e = absurd (true≢false (sym e))
 day_number (suc n) e = ne_eqb (suc n) 0 (omega arith)
 
 module _ (o : Order) (row : ℕ) (buffer : List ℕ) where
-  by-worked : (w : Worked) → work_date_of o (row_date_of o.date row) ≡ w → row_room o.ramadan ≤ length buffer
+  by-worked : (w : Result PrayerTimes Refusal) → work_date_of o (row_date_of o.date row) ≡ w → row_room o.ramadan ≤ length buffer
       → Lent (worked_call_of o.ramadan (row_date_of o.date row) w buffer).answer.number
       (line_text o.ramadan (row_date_of o.date row) w) buffer (worked_call_of o.ramadan (row_date_of o.date row) w buffer).buffer
   unfolding worked_call_of line_text
-  by-worked (worked.Times t) e h = written_lent (let l = columns_length o.ramadan (row_date_of o.date row) t in omega arith)
-  by-worked (worked.Refused r) e h = refused_lent (day_number r.number (refused_day o (row_date_of o.date row) r e).number)
+  by-worked (Ok t) e h = written_lent (let l = columns_length o.ramadan (row_date_of o.date row) t in omega arith)
+  by-worked (Err r) e h = refused_lent (day_number r.number (refused_day o (row_date_of o.date row) r e).number)
 
   read-lent : Lent (read_call_of o row buffer).answer.number (row_line o row) buffer (read_call_of o row buffer).buffer
   unfolding read_call_of work_row_of worked_call_of
@@ -166,10 +159,10 @@ row_lent s row buffer =
     (λ h. let short = row-short s buffer row (ltb-true (length buffer) full_row h) in rw (← short.0, ← short.1) (refused_lent refl))
     (λ h. by-reading (reading_of s) refl (ltb-false (length buffer) full_row h))
   where
-    by-reading : (x : Reading) → reading_of s ≡ x → full_row ≤ length buffer
+    by-reading : (x : Result Order Refusal) → reading_of s ≡ x → full_row ≤ length buffer
         → Lent (row_call_of s row buffer).answer.number (written_for (λ o. row_line o row) x) buffer (row_call_of s row buffer).buffer
-    by-reading (reading.Read o) e h = let read = row_read s buffer row h o e in rw (← read.0, ← read.1) (read-lent o row buffer)
-    by-reading (reading.Refused r) e h = let no = row-refused s buffer row h r e in
+    by-reading (Ok o) e h = let read = row_read s buffer row h o e in rw (← read.0, ← read.1) (read-lent o row buffer)
+    by-reading (Err r) e h = let no = row-refused s buffer row h r e in
         rw (← no.0, ← no.1) (refused_lent (order_number s r e))
 
 -- ---- rows of cells: the rows that are asked for have room
@@ -189,11 +182,11 @@ module _ (asked : Order → Rows) (s buffer : List ℕ)
       cases (ltb (length buffer) row_length) (λ short. rw short (refused_lent refl))
       (λ there. rw there (by-reading (ltb-false (length buffer) row_length there) (reading_of s) refl))
     where
-      by-reading : row_length ≤ length buffer → (x : Reading) → reading_of s ≡ x
+      by-reading : row_length ≤ length buffer → (x : Result Order Refusal) → reading_of s ≡ x
           → Lent (pages.call_in asked x buffer).answer.refusal.number (written_for (λ o. cells_of (asked o)) x) buffer
           (pages.call_in asked x buffer).buffer
-      by-reading h (reading.Read o) e = rows-lent (asked o) (fit o h)
-      by-reading h (reading.Refused r) e = refused_lent (order_number s r e)
+      by-reading h (Ok o) e = rows-lent (asked o) (fit o h)
+      by-reading h (Err r) e = refused_lent (order_number s r e)
 
 one_fits : (row : ℕ) (buffer : List ℕ) (o : Order) → row_length ≤ length buffer → length (cells_of (one_row row o)) ≤ length buffer
 unfolding one_row cells_of rows_from
@@ -213,7 +206,7 @@ piece_fits (suc p) first scratch o h =
     rw (drop-rows, take-rows, drop-rows, take-rows, cells-length) (omega arith)
 
 -- a row that is asked for and that there is, is not refused
-module _ (asked : Order → Rows) (s buffer : List ℕ) (o : Order) (e : reading_of s ≡ reading.Read o) (h : row_length ≤ length buffer) where
+module _ (asked : Order → Rows) (s buffer : List ℕ) (o : Order) (e : reading_of s ≡ Ok o) (h : row_length ≤ length buffer) where
   put-shown : (rows : Rows) → 1 ≤ length rows → (put_call_of rows buffer).answer.refusal ≡ no_refusal
   unfolding put_call_of
   put-shown [] l = absurd (omega arith)

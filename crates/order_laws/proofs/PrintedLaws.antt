@@ -1,4 +1,5 @@
--- Times near their date have days of one digit, and so has imsak. Assumes nothing.
+-- Ok near their date have days of one digit, and so has imsak. Assumes nothing.
+use Rattle.std.specs.Prelude.{Ok}
 use Rattle.prelude.proofs.Logic.{◌≡◌, sym, subst, ℕ, zero, suc, ◌+◌, ◌*◌, ◌^◌, ◌≤◌, ◌<◌, arith, ltb, lit<}
 use Rattle.prelude.proofs.Logic.{ℤ, pos, negsuc, nat_abs, ◌-ℤ◌, ◌*ℤ◌, get_or, ltb-true, cases}
 use Rattle.integers.specs.Ends.{least64}
@@ -11,7 +12,6 @@ use Rattle.order.specs.{Accepted.Accepted, declared.reading.Order.Order}
 use Rattle.models.specs.declared.prayer.Prayer.TheVariants.{Fajr, Sunrise, Dhuhr, Asr, Maghrib, Isha, Qiyam, FajrTomorrow}
 use Rattle.schedule.proofs.Schedule.{start_near, numbers_of, start_of, season_of, worked_at, time_of}
 use Rattle.schedule.specs.declared.{prayer_times.PrayerTimes.PrayerTimes}
-use Rattle.schedule.specs.declared.prayer_times.Worked.TheVariants.{Times}
 use Rattle.schedule_laws.specs.Range.{OfDate, AllOfDate}
 use Rattle.schedule_laws.proofs.RangeLaws.{times_lie_by_their_date}
 use Rattle.order_laws.specs.{Imsak.ImsakIsPrintedWhole, Printed.DaysArePrintedWhole}
@@ -50,15 +50,15 @@ nine_digits date t a (suc (suc (suc (suc (suc (suc (suc (suc zero)))))))) l = on
 nine_digits date t a (suc (suc (suc (suc (suc (suc (suc (suc (suc i))))))))) l = absurd (omega arith)
 
 -- a row with times is one that the order has
-row_worked : (order : Order) (row : ℕ) (t : PrayerTimes) → work_row_of order row ≡ Times t
-    → (row < order.rows) × (worked_at (row_date_of order.date row) order.setting ≡ Times t)
+row_worked : (order : Order) (row : ℕ) (t : PrayerTimes) → work_row_of order row ≡ Ok t
+    → (row < order.rows) × (worked_at (row_date_of order.date row) order.setting ≡ Ok t)
 unfolding work_row_of
 row_worked order row t e =
     cases (ltb row order.rows) (λ h. (ltb-true row order.rows h, simp h at e))
     (λ h. let z : ◌≡◌ {A = ℕ} 0 1 = cc in absurd (omega arith))
 
 -- the times of a row are near its date
-by_its_date : (order : Order) (row : ℕ) (t : PrayerTimes) → Accepted order → work_row_of order row ≡ Times t
+by_its_date : (order : Order) (row : ℕ) (t : PrayerTimes) → Accepted order → work_row_of order row ≡ Ok t
     → AllOfDate (row_date_of order.date row) t
 by_its_date order row t h e =
     let date = row_date_of order.date row in
@@ -88,7 +88,7 @@ imsak_digit date fajr m l h =
     days_within 5 date time (omega (arith, d.0, d.1, e.0, e.1, f.0, f.1, h.from, h.before))
     (omega (arith, d.0, d.1, e.0, e.1, f.0, f.1, h.from, h.before))
 
-pub row_imsak : (order : Order) (row : ℕ) (t : PrayerTimes) → Accepted order → work_row_of order row ≡ Times t
+pub row_imsak : (order : Order) (row : ℕ) (t : PrayerTimes) → Accepted order → work_row_of order row ≡ Ok t
     → imsak_of order.ramadan.imsak t.fajr ≡ t.fajr -ℤ pos (60 * order.ramadan.imsak)
 unfolding time_of
 row_imsak order row t h e =

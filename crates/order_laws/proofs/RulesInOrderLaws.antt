@@ -1,25 +1,21 @@
 -- Each call on a row is refused by the first broken rule of its list. Every call's refusal is computed from that list by `broken`: the
 -- order's rules, the row, the day and 11 in turn. Assumes nothing.
+use Rattle.std.specs.Prelude.{Err, None, Ok, Option, Result, Some}
+use Rattle.models.specs.declared.prayer.Prayer.{Prayer}
+use Rattle.schedule.specs.declared.prayer_times.PrayerTimes.{PrayerTimes}
 use Rattle.prelude.proofs.Logic.{◌≡◌, refl, sym, ap, ◌∙◌, subst, true, false, not, cond, true≢false, List, [], ◌∷◌, ◌++◌, ℕ, arith, ltb}
 use Rattle.prelude.proofs.Logic.{eqb, length, cases}
 use Rattle.calendar.specs.Answers.{row_date_of}
 use Rattle.calendar.specs.declared.dates.Date.{Date}
 use Rattle.days.specs.Calls.{work_date_of, lacks_row, work_row_of, work_reading_of, work_day_of, instant_fits, work_at_of, in_force_of, prayer_at_of}
 use Rattle.days.specs.Calls.{next_prayer_in, next_prayer_of, next_at_of, time_until_in, time_until_of, remaining_at_of}
-use Rattle.days.specs.declared.in_force.InForce.TheVariants as force
-use Rattle.days.specs.declared.in_force.NextPrayer.TheVariants as next
-use Rattle.days.specs.declared.in_force.TimeUntil.TheVariants as until
 use Rattle.fields.specs.{Fields.check_of, Values.values_of}
 use Rattle.lines.specs.Lines.{full_row, row_room}
 use Rattle.order.specs.Reading.{checks_of, order_of, first_of, reading_of}
-use Rattle.order.specs.declared.reading.{Order.Order, Reading.Reading}
-use Rattle.order.specs.declared.reading.Reading.TheVariants as reading
+use Rattle.order.specs.declared.reading.{Order.Order}
 use Rattle.refusals.specs.{Refusals.refusal, Refusals.no_refusal, declared.Refusal.Refusal}
 use Rattle.schedule.specs.InForce.{current_time_of, following_current_of, until_of}
-use Rattle.schedule.specs.declared.in_force.Current.{Current}
-use Rattle.schedule.specs.declared.in_force.Current.TheVariants as current
-use Rattle.schedule.specs.declared.{in_force.Instant.Instant, prayer_times.Worked.Worked}
-use Rattle.schedule.specs.declared.prayer_times.Worked.TheVariants as worked
+use Rattle.schedule.specs.declared.{in_force.Instant.Instant}
 use Rattle.sheets.specs.Rows.{worked_call_of, read_call_of, row_call_of}
 use Rattle.order_laws.specs.NothingBreaks.{FirstBroken}
 use Rattle.order_laws.specs.RulesInOrder.{day_rule, none_rule, short_rule, call_rules, instant_rules, FirstRuleRefuses}
@@ -50,23 +46,23 @@ stopped (q ∷ rest) more n = cases (eqb q.number 0) (λ h. simp h (stopped rest
 
 -- reading an order follows its rules
 read_by : (rules : List Refusal) (o : Order)
-    → first_of rules o ≡ cond (eqb (broken rules).number 0) (reading.Read o) (reading.Refused (broken rules))
+    → first_of rules o ≡ cond (eqb (broken rules).number 0) (Ok o) (Err (broken rules))
 unfolding first_of
 read_by [] o = refl
 read_by (q ∷ rest) o = cases (eqb q.number 0) (λ h. simp h (read_by rest o)) (λ h. simp h)
 
 -- ---- the row and its day: what refuses is the day, or the last rule if the day has times
-abbrev answer : Worked → Refusal → Refusal
-answer (worked.Times t) none = broken (none ∷ [])
-answer (worked.Refused r) none = r
+abbrev answer : Result PrayerTimes Refusal → Refusal → Refusal
+answer (Ok t) none = broken (none ∷ [])
+answer (Err r) none = r
 
 abbrev row_rules : Order → ℕ → Refusal → List Refusal
 row_rules o row none =
     cond (not (ltb row o.rows)) lacks_row no_refusal ∷ day_rule (work_date_of o (row_date_of o.date row)) ∷ none ∷ []
 
-by_day : (o : Order) (date : Date) (none : Refusal) (w : Worked) → work_date_of o date ≡ w → broken (day_rule w ∷ none ∷ []) ≡ answer w none
-by_day o date none (worked.Times t) e = refl
-by_day o date none (worked.Refused r) e = simp (day_number r.number (refused_day o date r e).number)
+by_day : (o : Order) (date : Date) (none : Refusal) (w : Result PrayerTimes Refusal) → work_date_of o date ≡ w → broken (day_rule w ∷ none ∷ []) ≡ answer w none
+by_day o date none (Ok t) e = refl
+by_day o date none (Err r) e = simp (day_number r.number (refused_day o date r e).number)
 
 by_row : (o : Order) (row : ℕ) (none : Refusal) → broken (row_rules o row none) ≡ answer (work_row_of o row) none
 unfolding work_row_of
@@ -82,10 +78,10 @@ module _ (s : List ℕ) (row : ℕ) where
   order = order_of (values_of s)
 
   -- ---- writing a row
-  by-worked : (buffer : List ℕ) (date : Date) (w : Worked) → (worked_call_of order.ramadan date w buffer).answer ≡ answer w no_refusal
+  by-worked : (buffer : List ℕ) (date : Date) (w : Result PrayerTimes Refusal) → (worked_call_of order.ramadan date w buffer).answer ≡ answer w no_refusal
   unfolding worked_call_of
-  by-worked buffer date (worked.Times t) = refl
-  by-worked buffer date (worked.Refused r) = refl
+  by-worked buffer date (Ok t) = refl
+  by-worked buffer date (Err r) = refl
 
   by-room : (buffer : List ℕ)
       → (read_call_of order row buffer).answer ≡ broken (short_rule buffer (row_room order.ramadan) ∷ row_rules order row no_refusal)
@@ -114,10 +110,10 @@ module _ (s : List ℕ) (row : ℕ) where
       (λ g. rw g (stopped rules (no_refusal ∷ row_rules order row none) g)))
 
   -- a refused day has a number
-  pub day_refused : (r : Refusal) (x : Reading) → reading_of s ≡ x → work_reading_of x row ≡ worked.Refused r → eqb r.number 0 ≡ false
+  pub day_refused : (r : Refusal) (x : Result Order Refusal) → reading_of s ≡ x → work_reading_of x row ≡ Err r → eqb r.number 0 ≡ false
   unfolding work_reading_of work_row_of
-  day_refused r (reading.Refused q) e w = let same : q ≡ r = cc in order_number s r (rw (← same) e)
-  day_refused r (reading.Read o) e w =
+  day_refused r (Err q) e w = let same : q ≡ r = cc in order_number s r (rw (← same) e)
+  day_refused r (Ok o) e w =
       cases (ltb row o.rows) (λ h. day_number r.number (refused_day o (row_date_of o.date row) r (simp h at w)).number)
       (λ h. let same : lacks_row ≡ r = cc in rw (← same) refl)
 
@@ -127,47 +123,47 @@ module _ (s : List ℕ) (row : ℕ) where
     unfolding work_at_of
     by-instant none = cases (instant_fits i) (λ h. simp h (by_order none)) (λ h. simp h)
 
-    at-refused : (r : Refusal) → work_at_of s row i ≡ worked.Refused r → eqb r.number 0 ≡ false
+    at-refused : (r : Refusal) → work_at_of s row i ≡ Err r → eqb r.number 0 ≡ false
     unfolding work_at_of work_day_of
     at-refused r e =
         cases (instant_fits i) (λ h. day_refused r (reading_of s) refl (simp h at e))
         (λ h. let same : refusal 10 0 ≡ r = cc in rw (← same) refl)
 
     -- the call is refused as the day is, or by 11 if no prayer is in force
-    Refuses : Worked → Refusal → Type 0
+    Refuses : Result PrayerTimes Refusal → Refusal → Type 0
     Refuses w r = (answer w (none_rule (in_force_of w i)) ≡ r) × (eqb r.number 0 ≡ false)
 
     refused-first : (r : Refusal) → Refuses (work_at_of s row i) r → FirstBroken r (instant_rules i (none_rule (prayer_at_of s row i)) s row)
     unfolding Refuses prayer_at_of
     refused-first r f = given _ r (by-instant (none_rule (in_force_of (work_at_of s row i) i)) ∙ f.0) f.1
 
-    prayer-first : (r : Refusal) (w : Worked) → work_at_of s row i ≡ w → in_force_of w i ≡ force.Refused r
+    prayer-first : (r : Refusal) (w : Result PrayerTimes Refusal) → work_at_of s row i ≡ w → in_force_of w i ≡ Err r
         → FirstBroken r (instant_rules i no_refusal s row)
     unfolding in_force_of
-    prayer-first r (worked.Times t) e p = let z : ◌≡◌ {A = ℕ} 0 1 = cc in absurd (omega arith)
-    prayer-first r (worked.Refused q) e p =
+    prayer-first r (Ok t) e p = let z : ◌≡◌ {A = ℕ} 0 1 = cc in absurd (omega arith)
+    prayer-first r (Err q) e p =
         let same : q ≡ r = cc in
-        given _ r (by-instant no_refusal ∙ ap (λ (w : Worked). answer w no_refusal) e ∙ same) (at-refused r (rw (← same) e))
+        given _ r (by-instant no_refusal ∙ ap (λ (w : Result PrayerTimes Refusal). answer w no_refusal) e ∙ same) (at-refused r (rw (← same) e))
 
-    next-refuses : (r : Refusal) (w : Worked) → work_at_of s row i ≡ w → next_prayer_of w i ≡ next.Refused r → Refuses w r
+    next-refuses : (r : Refusal) (w : Result PrayerTimes Refusal) → work_at_of s row i ≡ w → next_prayer_of w i ≡ Err r → Refuses w r
     unfolding Refuses next_prayer_of next_prayer_in following_current_of in_force_of
-    next-refuses r (worked.Refused q) e p = let same : q ≡ r = cc in (same, at-refused r (rw (← same) e))
-    next-refuses r (worked.Times t) e p = by-current (current_time_of t i) p
+    next-refuses r (Err q) e p = let same : q ≡ r = cc in (same, at-refused r (rw (← same) e))
+    next-refuses r (Ok t) e p = by-current (current_time_of t i) p
       where
-        by-current : (c : Current) → next_prayer_in (following_current_of c) ≡ next.Refused r
-            → (broken (none_rule (force.Prayer c) ∷ []) ≡ r) × (eqb r.number 0 ≡ false)
-        by-current (current.Some prayer) p = let z : ◌≡◌ {A = ℕ} 0 1 = cc in absurd (omega arith)
-        by-current current.Nothing p = let same : refusal 11 0 ≡ r = cc in (same, rw (← same) refl)
+        by-current : (c : Option Prayer) → next_prayer_in (following_current_of c) ≡ Err r
+            → (broken (none_rule (Ok c) ∷ []) ≡ r) × (eqb r.number 0 ≡ false)
+        by-current (Some prayer) p = let z : ◌≡◌ {A = ℕ} 0 1 = cc in absurd (omega arith)
+        by-current None p = let same : refusal 11 0 ≡ r = cc in (same, rw (← same) refl)
 
-    remaining-refuses : (r : Refusal) (w : Worked) → work_at_of s row i ≡ w → time_until_of w i ≡ until.Refused r → Refuses w r
+    remaining-refuses : (r : Refusal) (w : Result PrayerTimes Refusal) → work_at_of s row i ≡ w → time_until_of w i ≡ Err r → Refuses w r
     unfolding Refuses time_until_of time_until_in until_of following_current_of in_force_of
-    remaining-refuses r (worked.Refused q) e p = let same : q ≡ r = cc in (same, at-refused r (rw (← same) e))
-    remaining-refuses r (worked.Times t) e p = by-current (current_time_of t i) p
+    remaining-refuses r (Err q) e p = let same : q ≡ r = cc in (same, at-refused r (rw (← same) e))
+    remaining-refuses r (Ok t) e p = by-current (current_time_of t i) p
       where
-        by-current : (c : Current) → time_until_in (until_of t i (following_current_of c)) ≡ until.Refused r
-            → (broken (none_rule (force.Prayer c) ∷ []) ≡ r) × (eqb r.number 0 ≡ false)
-        by-current (current.Some prayer) p = let z : ◌≡◌ {A = ℕ} 0 1 = cc in absurd (omega arith)
-        by-current current.Nothing p = let same : refusal 11 0 ≡ r = cc in (same, rw (← same) refl)
+        by-current : (c : Option Prayer) → time_until_in (until_of t i (following_current_of c)) ≡ Err r
+            → (broken (none_rule (Ok c) ∷ []) ≡ r) × (eqb r.number 0 ≡ false)
+        by-current (Some prayer) p = let z : ◌≡◌ {A = ℕ} 0 1 = cc in absurd (omega arith)
+        by-current None p = let same : refusal 11 0 ≡ r = cc in (same, rw (← same) refl)
 
 pub first_rule_refuses : (s : List ℕ) (row : ℕ) → FirstRuleRefuses s row
 unfolding work_day_of prayer_at_of next_at_of remaining_at_of
@@ -175,7 +171,7 @@ first_rule_refuses s row =
     record {
       line = λ buffer n. let e = line_first s row buffer in rw e (first _ (rw e at n));
       day = λ r e.
-          given _ r (by_order s row no_refusal ∙ ap (λ (w : Worked). answer w no_refusal) e) (day_refused s row r (reading_of s) refl e);
+          given _ r (by_order s row no_refusal ∙ ap (λ (w : Result PrayerTimes Refusal). answer w no_refusal) e) (day_refused s row r (reading_of s) refl e);
       prayer = λ i r e. prayer-first s row i r (work_at_of s row i) refl e;
       next = λ i r e. refused-first s row i r (next-refuses s row i r (work_at_of s row i) refl e);
       remaining = λ i r e. refused-first s row i r (remaining-refuses s row i r (work_at_of s row i) refl e);

@@ -1,4 +1,5 @@
 -- An order that is read is still read if a coordinate is sent in the other form, and its coordinates are written back. Assumes nothing.
+use Rattle.std.specs.Prelude.{Ok}
 use Rattle.prelude.proofs.Logic.{◌≡◌, refl, sym, ap, ◌∙◌, true, false, ◌&&◌, ◌||◌, List, ℕ, ◌≤◌, ◌<◌, arith, leb, leb-true, lit≤}
 use Rattle.prelude.proofs.Logic.{get_or, eq-eqb, cases}
 use Rattle.float64.proofs.Floats.{Float, neg, dec, Inside}
@@ -13,7 +14,6 @@ use Rattle.order.specs.Given.{form_in, coordinate_in, ramadan_in}
 use Rattle.order.specs.Ranges.{degrees_fit, look_up, fits_of, in_range_of}
 use Rattle.order.specs.Reading.{first_failing, required, is_given_of, missing_of, both_forms_of, tags_from, out_of_range_of, order_of, wrong_start_of}
 use Rattle.order.specs.{Reading.first_of, Reading.reading_of, Accepted.Accepted, declared.reading.Order.Order}
-use Rattle.order.specs.declared.reading.Reading.TheVariants.{Read}
 use Rattle.order.proofs.AcceptedLaws.{read_accepted}
 use Rattle.order.proofs.ReadingLaws.{Passed, read_passed, has_required, fits_given}
 use Rattle.refusals.specs.Refusals.{no_refusal}
@@ -130,7 +130,7 @@ module _ (a b : List ℕ) (w : Swapped a b) where
       simp (← (value a b w.others 2 refl refl), ← (has a b w.others 20 refl refl), ← (value a b w.others 20 refl refl))
       passed.start
 
-  second-read : reading_of b ≡ Read (order_of (values_of b))
+  second-read : reading_of b ≡ Ok (order_of (values_of b))
   unfolding reading_of first_of
   second-read = simp (eq-eqb (check_of b).number 0 w.fields, given-b, single-b, ranges-b, eq-eqb _ _ start-b)
 
@@ -148,7 +148,7 @@ other_form_is_read a b w =
     }
 
 -- ---- a coordinate that was read as on the map is written back
-module _ (s : List ℕ) (o : Order) (e : reading_of s ≡ Read o) where
+module _ (s : List ℕ) (o : Order) (e : reading_of s ≡ Ok o) where
   back : (map most : ℕ) (of : Order → Float) → most ≤ 180 → form_fits most (form_in (value_of s map)) ≡ true
       → of (order_of (values_of s)) ≡ degrees_of (signed_hundredths_of (form_in (value_of s map)))
       → written_of map most (of o) ≡ record { refusal = no_refusal; form = as_written (form_in (value_of s map)) }

@@ -1,6 +1,7 @@
 -- Two orders that meet the hypothesis of demand 3, so it can be met. The first has town P, 2026-06-21, one row, 10.0, 20.0, method 0. The
 -- second has one minute more for Fajr, and its place as on the map, 10 degrees north and 20 degrees east. A third is the first with its
 -- place as on the map. Document 01 alone accepts the first. At the end: an order of 400 rows, and an order for each refusal.
+use Rattle.std.specs.Prelude.{Err, Ok}
 use Rattle.prelude.proofs.Logic.{◌≡◌, refl, sym, subst, true, false, true≢false, List, [], ◌∷◌, ◌++◌, ℕ, zero, suc, ◌≤◌, arith, leb}
 use Rattle.prelude.proofs.Logic.{le_z, T, replicate, leb-true, leb-false, map, eqb, eqb-true, cases}
 use Rattle.prelude.specs.Lists.{listed}
@@ -23,7 +24,6 @@ use Rattle.text.specs.Text.{printable}
 use Rattle.order.specs.Ranges.{rows_fit, ramadan_rows, ramadan_fits, minute_fits, minutes_fit, interval_fits, look_up, fits_of, in_range_of}
 use Rattle.order.specs.Reading.{first_failing, is_given_of, missing_of, both_forms_of, tags_from, out_of_range_of, order_of, wrong_start_of, first_of}
 use Rattle.order.specs.Reading.{reading_of, town_in, town_of}
-use Rattle.order.specs.declared.reading.Reading.{TheVariants.Read, TheVariants.Refused}
 use Rattle.refusals.specs.{Refusals.refusal, declared.Refusal.Refusal}
 use Rattle.order_laws.specs.FormerRows.{former_length_fits, former_fault_of, former_walk_of, former_check_of, former_rows_fit, former_in_range}
 use Rattle.order_laws.specs.{FormerRows.former_order_of, FormerRows.former_reading_of, Minutes.LaterOrder}
@@ -140,7 +140,7 @@ and_back =
     }
 
 -- ---- document 01 alone accepted the first
-pub was_accepted : former_reading_of earlier ≡ Read (former_order_of (values_of earlier))
+pub was_accepted : former_reading_of earlier ≡ Ok (former_order_of (values_of earlier))
 unfolding former_reading_of former_check_of former_walk_of former_fault_of former_length_fits former_rows_fit former_in_range former_order_of opened
 was_accepted = refl
 
@@ -153,7 +153,7 @@ order_with month rows further =
 abbrev year : List ℕ
 year = order_with 6 (3 ∷ 0 ∷ 2 ∷ 1 ∷ 144 ∷ []) []
 
-pub year_read : (reading_of year ≡ Read (order_of (values_of year))) × ((order_of (values_of year)).rows ≡ 400)
+pub year_read : (reading_of year ≡ Ok (order_of (values_of year))) × ((order_of (values_of year)).rows ≡ 400)
 unfolding opened
 year_read = (refl, refl)
 
@@ -177,7 +177,7 @@ examples =
 
 abbrev AllRefused : List Example → Type 0
 AllRefused [] = T true
-AllRefused (example ∷ rest) = (reading_of example.0 ≡ Refused example.1) × AllRefused rest
+AllRefused (example ∷ rest) = (reading_of example.0 ≡ Err example.1) × AllRefused rest
 
 pub examples_are_refused : AllRefused examples
 unfolding opened ramadan_fits ramadan_given ramadan_start_of hijri.held_of hijri.date_of_day_of hijri.date_at_of hijri.in_year_of hijri.year_of
@@ -185,7 +185,7 @@ unfolding opened ramadan_fits ramadan_given ramadan_start_of hijri.held_of hijri
 examples_are_refused = (refl, (refl, (refl, (refl, (refl, (refl, (refl, tt)))))))
 
 from_examples : (given : List Example) → AllRefused given → (number : ℕ) → listed (map (λ (e : Example). e.1.number) given) number ≡ true
-    → (bytes : List ℕ) × (place : ℕ) × (reading_of bytes ≡ Refused (refusal number place))
+    → (bytes : List ℕ) × (place : ℕ) × (reading_of bytes ≡ Err (refusal number place))
 unfolding listed
 from_examples [] all number l = absurd (true≢false (sym l))
 from_examples (example ∷ rest) all number l =

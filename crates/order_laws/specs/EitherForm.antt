@@ -1,14 +1,13 @@
 -- Request 7: "a place sent either way with the same f64 gets the same sheet, shifts by minutes included." Stated for the bytes of any two
 -- orders: the record, the sheet and what the calls return are the same. Demand 3's two orders may differ in the form too. Proved in
 -- proofs/EitherFormLaws.
-use Rattle.std.specs.Prelude.{ℕ, ◌≤◌, ◌≡◌, Bool, false, ◌||◌, List, eqb}
+use Rattle.std.specs.Prelude.{ℕ, ◌≤◌, ◌≡◌, Bool, false, ◌||◌, List, eqb, Ok}
 use Rattle.days.specs.Calls.{work_day_of, prayer_at_of, next_at_of, remaining_at_of}
 use Rattle.fields.specs.Tags.{latitude_tag, longitude_tag, last_tag}
 use Rattle.fields.specs.Values.{has_of, value_of}
 use Rattle.fields.specs.declared.values.Part.{Part}
 use Rattle.map_form.specs.Written.{map_latitude_tag, map_longitude_tag}
 use Rattle.order.specs.declared.reading.Order.{Order}
-use Rattle.order.specs.declared.reading.Reading.TheVariants.{Read}
 use Rattle.order.specs.Reading.{reading_of, town_of}
 use Rattle.pages.specs.Answers.{cells_call_of, page_call_of}
 use Rattle.pages.specs.Reports.{wear_text, cells_text}
@@ -25,8 +24,8 @@ says_place tag = eqb tag latitude_tag || eqb tag longitude_tag || eqb tag map_la
 pub record SamePlace (a b : List ℕ) : Type 0 where
   pub first : Order
   pub second : Order
-  pub first_read : reading_of a ≡ Read first
-  pub second_read : reading_of b ≡ Read second
+  pub first_read : reading_of a ≡ Ok first
+  pub second_read : reading_of b ≡ Ok second
   pub latitude : first.setting.coordinates.latitude ≡ second.setting.coordinates.latitude
   pub longitude : first.setting.coordinates.longitude ≡ second.setting.coordinates.longitude
   pub others : (tag : ℕ) → tag ≤ last_tag → says_place tag ≡ false → (has_of a tag ≡ has_of b tag) × (value_of a tag ≡ value_of b tag)

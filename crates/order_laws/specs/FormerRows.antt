@@ -1,7 +1,8 @@
 -- Request 4: "A one-byte value means what it did, and every order accepted before gives the same values and prints the same sheet." First
 -- what document 01 alone read and printed: tags 1 to 14, "rows, 1 byte, 1 to 250", the crate's own rules, nine columns. Then the statement,
 -- which is proved in proofs/FormerRowsLaws.
-use Rattle.std.specs.Prelude.{ℕ, zero, suc, ◌-◌, ◌≡◌, Bool, true, false, cond, not, ◌&&◌, ◌||◌, List, [], ◌∷◌, ◌++◌, ◌⊎◌, leb, ltb, eqb, pos, length, get_or, set, replicate}
+use Rattle.schedule.specs.declared.prayer_times.PrayerTimes.{PrayerTimes}
+use Rattle.std.specs.Prelude.{ℕ, zero, suc, ◌-◌, ◌≡◌, Bool, true, false, cond, not, ◌&&◌, ◌||◌, List, [], ◌∷◌, ◌++◌, ◌⊎◌, leb, ltb, eqb, pos, length, get_or, set, replicate, Err, Ok, Result}
 use Rattle.refusals.specs.Refusals.{refusal, no_refusal, field_cut, field_unknown, field_again, tag_missing, out_of_range}
 use Rattle.refusals.specs.declared.Refusal.{Refusal}
 use Rattle.calendar.specs.Answers.{row_date_of}
@@ -17,12 +18,8 @@ use Rattle.order.specs.Given.{date_in, degrees_in, parameters_in, no_ramadan}
 use Rattle.order.specs.Ranges.{between, last_year, fits_of}
 use Rattle.order.specs.Reading.{first_failing, required, tags_from, first_of, reading_of}
 use Rattle.order.specs.declared.reading.Order.{Order}
-use Rattle.order.specs.declared.reading.Reading.{Reading}
-use Rattle.order.specs.declared.reading.Reading.TheVariants as reading
 use Rattle.sheets.specs.Rows.{sheet_text}
 use Rattle.schedule.specs.Times.{worked_at}
-use Rattle.schedule.specs.declared.prayer_times.Worked.{Worked}
-use Rattle.schedule.specs.declared.prayer_times.Worked.TheVariants as worked
 use Rattle.text.specs.Text.{ascii}
 use Rattle.unit.specs.Unit.{coordinates_of}
 
@@ -76,7 +73,7 @@ former_order_of v =
     }
 
 -- "then missing tags, then ranges, both by rising tag"
-unfoldable pub former_reading_of : List ℕ → Reading
+unfoldable pub former_reading_of : List ℕ → Result Order Refusal
 former_reading_of s =
     let v = values_of s in
     first_of
@@ -84,9 +81,9 @@ former_reading_of s =
     (former_order_of v)
 
 -- ---- the sheet: "the town, the header, one line a row: date, then nine times in the header's order"
-unfoldable pub former_line : Date → Worked → List ℕ
-former_line date (worked.Times t) = row_text date (nine_of t)
-former_line date (worked.Refused r) = refused_day_text date r
+unfoldable pub former_line : Date → Result PrayerTimes Refusal → List ℕ
+former_line date (Ok t) = row_text date (nine_of t)
+former_line date (Err r) = refused_day_text date r
 
 abbrev pub former_setting : Order → Setting
 former_setting o = setting_of o.setting.coordinates o.setting.parameters source_rules
@@ -104,11 +101,11 @@ new_at s at = between midnight_tag last_tag (byte_of s at) || (eqb (byte_of s at
 
 pub record AsBefore (s : List ℕ) : Type 0 where
   -- "every order accepted before gives the same values and prints the same sheet"
-  pub accepted : (o : Order) → former_reading_of s ≡ reading.Read o
-      → (reading_of s ≡ reading.Read o) × (sheet_text s ≡ former_text (value_of s town_tag) o)
+  pub accepted : (o : Order) → former_reading_of s ≡ Ok o
+      → (reading_of s ≡ Ok o) × (sheet_text s ≡ former_text (value_of s town_tag) o)
   -- a refused order is refused by the same number and place, but for a field that was unknown and no longer is
-  pub refused : (r : Refusal) → former_reading_of s ≡ reading.Refused r
-      → (reading_of s ≡ reading.Refused r) ⊎ ((r.number ≡ field_unknown) × (new_at s r.place ≡ true))
+  pub refused : (r : Refusal) → former_reading_of s ≡ Err r
+      → (reading_of s ≡ Err r) ⊎ ((r.number ≡ field_unknown) × (new_at s r.place ≡ true))
 
 abbrev pub OrdersAreAsBefore : Type 0
 OrdersAreAsBefore = (s : List ℕ) → AsBefore s

@@ -5,7 +5,7 @@
 -- exactly Fajr's difference; and for any instants t and u, u not after t, the prayer in force at u under the second stands no later in the
 -- list of eight than at t under the first ("none" standing before Fajr)."
 -- Proved in proofs/MinutesLaws.
-use Rattle.std.specs.Prelude.{◌≡◌, true, List, ℕ, ◌≤◌, ◌+ℤ◌}
+use Rattle.std.specs.Prelude.{◌≡◌, true, List, ℕ, ◌≤◌, ◌+ℤ◌, Err, Ok, Option}
 use Rattle.std.specs.Int.Signed.{le_z}
 use Rattle.fields.specs.declared.values.Part.{Part}
 use Rattle.models.specs.Chosen.{setting_of}
@@ -16,15 +16,11 @@ use Rattle.lines.specs.Lines.{imsak_of}
 use Rattle.refusals.specs.declared.Refusal.{Refusal}
 use Rattle.models.specs.Settings.{time_adjustments_of}
 use Rattle.order.specs.declared.reading.Order.{Order}
-use Rattle.order.specs.declared.reading.Reading.TheVariants.{Read}
 use Rattle.order.specs.Reading.{reading_of, town_of}
-use Rattle.schedule.specs.declared.in_force.Current.{Current}
 use Rattle.schedule.specs.declared.in_force.Instant.{Instant}
 use Rattle.schedule.specs.declared.prayer_times.PrayerTimes.{PrayerTimes}
-use Rattle.schedule.specs.declared.prayer_times.Worked.TheVariants.{Times}
 use Rattle.schedule.specs.InForce.{NotAfter, current_number_of}
 use Rattle.schedule_laws.specs.Later.{with_minutes, later_by, Moved}
-use Rattle.days.specs.declared.in_force.InForce.TheVariants as force
 use Rattle.days.specs.Calls.{work_day_of, instant_fits, prayer_at_of}
 
 -- an order with other own minutes (tag 11), and with its town elsewhere in its bytes; all else is as it was
@@ -44,8 +40,8 @@ with_own_minutes order town minutes =
 pub record LaterOrder (a b : List ℕ) : Type 0 where
   pub first : Order
   pub second : Order
-  pub first_read : reading_of a ≡ Read first
-  pub second_read : reading_of b ≡ Read second
+  pub first_read : reading_of a ≡ Ok first
+  pub second_read : reading_of b ≡ Ok second
   pub town : town_of a ≡ town_of b
   pub alike : with_own_minutes first second.town second.setting.parameters.adjustments ≡ second
   -- "the six prayers are tag 11's"; Qiyam and tomorrow's Fajr have no minutes, so their sums are equal
@@ -63,15 +59,15 @@ pub record MovedRow (a b : List ℕ) (orders : LaterOrder a b) (row : ℕ) : Typ
   -- working the row: refused alike, none earlier, six times and tomorrow's Fajr later by exactly the difference (schedule_laws, Later)
   pub day : Moved orders.first.setting.parameters orders.second.setting.parameters (work_day_of a row) (work_day_of b row)
   -- request 12: "Raising Fajr's minutes moves imsak by as much": imsak is no earlier, and later by exactly Fajr's difference
-  pub imsak : (t u : PrayerTimes) → work_day_of a row ≡ Times t → work_day_of b row ≡ Times u → ImsakMoved orders.first orders.second t u
+  pub imsak : (t u : PrayerTimes) → work_day_of a row ≡ Ok t → work_day_of b row ≡ Ok u → ImsakMoved orders.first orders.second t u
   -- what naming the prayer returns, at t for the first and at u for the second
-  pub in_force : (t u : Instant) → instant_fits t ≡ true → instant_fits u ≡ true → NotAfter u t → (x y : Current)
-      → prayer_at_of a row t ≡ force.Prayer x → prayer_at_of b row u ≡ force.Prayer y → current_number_of y ≤ current_number_of x
+  pub in_force : (t u : Instant) → instant_fits t ≡ true → instant_fits u ≡ true → NotAfter u t → (x y : Option Prayer)
+      → prayer_at_of a row t ≡ Ok x → prayer_at_of b row u ≡ Ok y → current_number_of y ≤ current_number_of x
   -- and both are refused alike
   pub in_force_refused : (t u : Instant) → instant_fits t ≡ true → instant_fits u ≡ true → (r : Refusal)
-      → prayer_at_of a row t ≡ force.Refused r → prayer_at_of b row u ≡ force.Refused r
+      → prayer_at_of a row t ≡ Err r → prayer_at_of b row u ≡ Err r
   pub in_force_refused_too : (t u : Instant) → instant_fits t ≡ true → instant_fits u ≡ true → (r : Refusal)
-      → prayer_at_of b row u ≡ force.Refused r → prayer_at_of a row t ≡ force.Refused r
+      → prayer_at_of b row u ≡ Err r → prayer_at_of a row t ≡ Err r
 
 abbrev pub LaterOrdersMoveTheirRows : Type 0
 LaterOrdersMoveTheirRows = (a b : List ℕ) (orders : LaterOrder a b) (row : ℕ) → MovedRow a b orders row

@@ -1,33 +1,28 @@
 -- Demand 1, "the first broken rule in the stated order gives the number", for whole calls on a row: "Buffer and instant are checked before
 -- anything else in their calls. Then the order is read, then the row .. Then comes the day, then 11." Proved in proofs/RulesInOrderLaws.
-use Rattle.std.specs.Prelude.{ℕ, ◌≡◌, false, not, cond, List, [], ◌∷◌, ◌++◌, eqb, ltb, length}
+use Rattle.models.specs.declared.prayer.Prayer.{Prayer}
+use Rattle.schedule.specs.declared.prayer_times.PrayerTimes.{PrayerTimes}
+use Rattle.std.specs.Prelude.{ℕ, ◌≡◌, false, not, cond, List, [], ◌∷◌, ◌++◌, eqb, ltb, length, Err, None, Ok, Option, Result, Some}
 use Rattle.refusals.specs.Refusals.{refusal, no_refusal, buffer_short, instant_beyond, none_in_force}
 use Rattle.refusals.specs.declared.Refusal.{Refusal}
 use Rattle.calendar.specs.Answers.{row_date_of}
 use Rattle.days.specs.Calls.{work_date_of, work_day_of, lacks_row, instant_fits, prayer_at_of, next_at_of, remaining_at_of}
-use Rattle.days.specs.declared.in_force.InForce.{InForce}
-use Rattle.days.specs.declared.in_force.InForce.TheVariants as force
-use Rattle.days.specs.declared.in_force.NextPrayer.TheVariants as next
-use Rattle.days.specs.declared.in_force.TimeUntil.TheVariants as until
 use Rattle.fields.specs.Fields.{check_of}
 use Rattle.fields.specs.Values.{values_of}
 use Rattle.lines.specs.Lines.{full_row, row_room}
 use Rattle.order.specs.Reading.{checks_of, order_of}
-use Rattle.schedule.specs.declared.in_force.Current.TheVariants as current
 use Rattle.schedule.specs.declared.in_force.Instant.{Instant}
-use Rattle.schedule.specs.declared.prayer_times.Worked.{Worked}
-use Rattle.schedule.specs.declared.prayer_times.Worked.TheVariants as worked
 use Rattle.sheets.specs.Rows.{row_call_of}
 use Rattle.order_laws.specs.NothingBreaks.{FirstBroken}
 
-abbrev pub day_rule : Worked → Refusal
-day_rule (worked.Times t) = no_refusal
-day_rule (worked.Refused r) = r
+abbrev pub day_rule : Result PrayerTimes Refusal → Refusal
+day_rule (Ok t) = no_refusal
+day_rule (Err r) = r
 
-abbrev pub none_rule : InForce → Refusal
-none_rule (force.Prayer (current.Some prayer)) = no_refusal
-none_rule (force.Prayer current.Nothing) = refusal none_in_force 0
-none_rule (force.Refused r) = no_refusal
+abbrev pub none_rule : Result (Option Prayer) Refusal → Refusal
+none_rule (Ok (Some prayer)) = no_refusal
+none_rule (Ok None) = refusal none_in_force 0
+none_rule (Err r) = no_refusal
 
 abbrev pub short_rule : List ℕ → ℕ → Refusal
 short_rule buffer room = cond (ltb (length buffer) room) (refusal buffer_short 0) no_refusal
@@ -44,9 +39,9 @@ instant_rules i = call_rules (cond (not (instant_fits i)) (refusal instant_beyon
 pub record FirstRuleRefuses (s : List ℕ) (row : ℕ) : Type 0 where
   pub line : (buffer : List ℕ) → eqb (row_call_of s row buffer).answer.number 0 ≡ false → FirstBroken (row_call_of s row buffer).answer
       (call_rules (short_rule buffer full_row) (short_rule buffer (row_room (order_of (values_of s)).ramadan)) no_refusal s row)
-  pub day : (r : Refusal) → work_day_of s row ≡ worked.Refused r → FirstBroken r (call_rules no_refusal no_refusal no_refusal s row)
-  pub prayer : (i : Instant) (r : Refusal) → prayer_at_of s row i ≡ force.Refused r → FirstBroken r (instant_rules i no_refusal s row)
-  pub next : (i : Instant) (r : Refusal) → next_at_of s row i ≡ next.Refused r
+  pub day : (r : Refusal) → work_day_of s row ≡ Err r → FirstBroken r (call_rules no_refusal no_refusal no_refusal s row)
+  pub prayer : (i : Instant) (r : Refusal) → prayer_at_of s row i ≡ Err r → FirstBroken r (instant_rules i no_refusal s row)
+  pub next : (i : Instant) (r : Refusal) → next_at_of s row i ≡ Err r
       → FirstBroken r (instant_rules i (none_rule (prayer_at_of s row i)) s row)
-  pub remaining : (i : Instant) (r : Refusal) → remaining_at_of s row i ≡ until.Refused r
+  pub remaining : (i : Instant) (r : Refusal) → remaining_at_of s row i ≡ Err r
       → FirstBroken r (instant_rules i (none_rule (prayer_at_of s row i)) s row)

@@ -1,7 +1,7 @@
 -- Request 7: "Tags 18 and 19 stand for latitude and longitude". An order that is read is still read if a coordinate is sent in the other
 -- form; EitherForm begins with two orders that are read. And the coordinates of an order that is read are written back. Proved in
 -- proofs/SwappedLaws.
-use Rattle.std.specs.Prelude.{ℕ, ◌≤◌, ◌≡◌, true, false, List}
+use Rattle.std.specs.Prelude.{ℕ, ◌≤◌, ◌≡◌, true, false, List, Ok}
 use Rattle.fields.specs.Fields.{check_of}
 use Rattle.fields.specs.Tags.{latitude_tag, longitude_tag, last_tag}
 use Rattle.fields.specs.Values.{has_of, value_of, values_of}
@@ -11,7 +11,6 @@ use Rattle.map_form.specs.Written.{map_latitude_tag, map_longitude_tag, written_
 use Rattle.order.specs.Given.{coordinate_in, form_in}
 use Rattle.order.specs.Reading.{reading_of}
 use Rattle.order.specs.declared.reading.Order.{Order}
-use Rattle.order.specs.declared.reading.Reading.TheVariants.{Read}
 use Rattle.refusals.specs.Refusals.{no_refusal}
 use Rattle.order_laws.specs.EitherForm.{SamePlace, says_place}
 
@@ -25,7 +24,7 @@ pub data Sent (a b : List ℕ) (float map most : ℕ) : Type 0 where
 -- the first order is read; the form of the second's fields is right, its coordinates are the same f64, and every other tag gives the same
 pub record Swapped (a b : List ℕ) : Type 0 where
   pub order : Order
-  pub first_read : reading_of a ≡ Read order
+  pub first_read : reading_of a ≡ Ok order
   pub fields : (check_of b).number ≡ 0
   pub latitude : Sent a b latitude_tag map_latitude_tag most_latitude
   pub longitude : Sent a b longitude_tag map_longitude_tag most_longitude
@@ -45,4 +44,4 @@ pub record BackOnTheMap (s : List ℕ) (o : Order) : Type 0 where
       ≡ record { refusal = no_refusal; form = as_written (form_in (value_of s map_longitude_tag)) }
 
 abbrev pub ReadIsWrittenBack : Type 0
-ReadIsWrittenBack = (s : List ℕ) (o : Order) → reading_of s ≡ Read o → BackOnTheMap s o
+ReadIsWrittenBack = (s : List ℕ) (o : Order) → reading_of s ≡ Ok o → BackOnTheMap s o

@@ -1,7 +1,9 @@
 -- The promises of the call. Assumes nothing.
+use Rattle.std.specs.Prelude.{Err, Ok, Result}
+use Rattle.refusals.specs.declared.Refusal.{Refusal}
 use Rattle.prelude.proofs.Logic.{◌≡◌, refl, sym, ap, subst, ◌∙◌, List, ℕ, ◌≤◌, arith, leb, length, take, length-take, leb-true, le-leb}
 use Rattle.prelude.proofs.Logic.{cases}
-use Rattle.order_numbers.proofs.Reader.{front_of, Order, Reading, Read, Refused, reading_of, town_of, refused_by, read_town}
+use Rattle.order_numbers.proofs.Reader.{front_of, Order, reading_of, town_of, refused_by, read_town}
 use Rattle.text.proofs.TextLaws.{take_front}
 use Rattle.order_numbers.specs.declared.numbers.OrderNumbers.{OrderNumbers}
 use Rattle.order_numbers.specs.Numbers.{order_read, order_numbers_in, order_numbers_of}
@@ -16,25 +18,25 @@ abbrev number : OrderCall → ℕ
 number call = call.answer.refusal.number
 
 -- if the bytes are not refused and have room, they are written
-pub room : (s buffer : List ℕ) (o : Order) → reading_of s ≡ Read o → length s ≤ length buffer
+pub room : (s buffer : List ℕ) (o : Order) → reading_of s ≡ Ok o → length s ≤ length buffer
     → call_in (reading_of s) s buffer ≡ record { answer = written_of (length s); buffer = front_of s buffer }
 unfolding call_in
 room s buffer o e h = simp (e, le-leb (length s) (length buffer) h)
 
 -- and if a call is not refused, its bytes are not refused and have room; a refused call changes nothing
 record Called (s buffer : List ℕ) : Type 0 where
-  written : number (call_in (reading_of s) s buffer) ≡ 0 → (o : Order) × (reading_of s ≡ Read o) × (length s ≤ length buffer)
+  written : number (call_in (reading_of s) s buffer) ≡ 0 → (o : Order) × (reading_of s ≡ Ok o) × (length s ≤ length buffer)
   refused : 1 ≤ number (call_in (reading_of s) s buffer) → (call_in (reading_of s) s buffer).buffer ≡ buffer
 
 called : (s buffer : List ℕ) → Called s buffer
 unfolding call_in
 called s buffer = by (reading_of s) refl
   where
-    by : (x : Reading) → reading_of s ≡ x → Called s buffer
-    by (Refused r) e =
+    by : (x : Result Order Refusal) → reading_of s ≡ x → Called s buffer
+    by (Err r) e =
         let some = (refused_by s r e).some in
         record { written = λ z. let none : r.number ≡ 0 = simp e at z in absurd (omega arith); refused = λ h. simp e }
-    by (Read o) e =
+    by (Ok o) e =
         cases (leb (length s) (length buffer))
         (λ t. record {
           written = λ z. (o, e, leb-true (length s) (length buffer) t);
@@ -49,7 +51,7 @@ writes_what_is_read n town buffer f z =
     let w = (called text buffer).written z in
     let same : take (order_call_of n town buffer).answer.length (order_call_of n town buffer).buffer ≡ text =
     ap (λ (c : OrderCall). take c.answer.length c.buffer) (room text buffer w.0 w.1 w.2) ∙ take_front text buffer in
-    let read : (order_numbers_of text).refusal.number ≡ 0 = ap (λ (x : Reading). (order_numbers_in x).refusal.number) w.1 in
+    let read : (order_numbers_of text).refusal.number ≡ 0 = ap (λ (x : Result Order Refusal). (order_numbers_in x).refusal.number) w.1 in
     subst (λ (l : List ℕ). ReadAs l n town) (sym same) (round_trip n town f read)
 
 pub room_is_enough : RoomIsEnough

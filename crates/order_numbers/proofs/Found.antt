@@ -135,7 +135,7 @@ running (f ∷ rest) (suc k) s at seen low h e one r new =
     let other : (t : ℕ) → f.0 + 1 ≤ t → t ≡ byte_of s at → ⊥ = λ t l q. let n = i.named in omega arith in
     let none = no_fault f.0 (length f.1) (length s - at) (omega arith) fits.0 (omega (arith, i.inside)) in
     let fault =
-    sym (fault_is s at seen f.0 (length f.1) 0 false (sym i.named) (sym i.size) (sym (new f.0 over)) (sym none)) in
+    sym (fault_is s at seen f.0 (length f.1) false (sym i.named) (sym i.size) (sym (new f.0 over))) ∙ none in
     walk-on s at k seen inside fault
     ∙ running rest k s (next_field_at s at) (set seen (byte_of s at) true) (f.0 + 1) (omega arith) i.next (omega arith) fits.1
     (λ t l. get_or-set_other seen (byte_of s at) t true false (other t l) ∙ new t (omega arith))

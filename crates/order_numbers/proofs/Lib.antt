@@ -9,3 +9,4 @@ pub mod RoundTrip
 pub mod Plain
 pub mod Again
 pub mod Calls
+pub mod BytesLaws

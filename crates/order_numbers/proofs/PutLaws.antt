@@ -1,7 +1,7 @@
 -- A field that is put at an offset follows the bytes before it. Assumes nothing.
 use Rattle.prelude.proofs.Logic.{◌≡◌, refl, sym, ap, ◌∙◌, List, [], ◌∷◌, ◌++◌, append_assoc, append-nil, ℕ, ◌+◌, ◌≤◌, arith, leb, lit≤}
 use Rattle.prelude.proofs.Logic.{arms, length, take, drop, length-append, take_at, length-take-le, le-leb, ℤ, w32, w64, SFits, to_z, of_z}
-use Rattle.prelude.proofs.Logic.{to_z-of_z}
+use Rattle.prelude.proofs.Logic.{to_z-of_z, min, min-eq_left, min-eq_right, le_of_lt, leb-true, leb-false, take_all, cases}
 use Rattle.integers.proofs.Integers.{P, N, read_wide}
 use Rattle.text.specs.Text.{put_of}
 use Rattle.text.proofs.TextLaws.{put_behind}
@@ -15,6 +15,14 @@ taken_put buffer text at room =
     let front = length-append (take at buffer) text ∙ ap (λ (k : ℕ). k + length text) (length-take-le at buffer (omega arith)) in
     rw (le-leb (at + length text) (length buffer) room)
     (take_at (take at buffer ++ text) (drop (at + length text) buffer) (at + length text) front)
+
+-- a town that is cut at its end or behind its 41st byte
+pub take_cut : (s : List ℕ) → take (min (length s) 41) s ≡ take 41 s
+take_cut s =
+    cases (leb (length s) 41)
+    (λ e. let h : length s ≤ 41 = leb-true (length s) 41 e in
+    ap (λ (k : ℕ). take k s) (min-eq_left h) ∙ take_all (length s) s (omega arith) ∙ sym (take_all 41 s h))
+    (λ e. ap (λ (k : ℕ). take k s) (min-eq_right (le_of_lt (leb-false (length s) 41 e))))
 
 -- a header of three bytes and the value behind it are a field
 pub field_taken : (buffer one two : List ℕ) (at tag : ℕ) (header v : List ℕ) → header ++ v ≡ field_bytes tag v → length header ≡ 3

@@ -1,4 +1,5 @@
 -- The names of the reader and of what it reads that the proofs of this crate use, in one place. Nothing is added.
+pub use Rattle.std.specs.Prelude.{Err, Ok}
 pub use Rattle.calendar.proofs.Calendar.{date_of, exists_yes, month_of_date, row_date_of}
 pub use Rattle.calendar.specs.declared.dates.Date.{Date}
 pub use Rattle.fields.proofs.FieldsLaws.{column_small, fits_between}
@@ -33,8 +34,6 @@ unfoldable pub use Rattle.order.specs.Reading.{both_forms_of, first_failing, fir
 unfoldable pub use Rattle.order.specs.Reading.{tags_from, town_of, wrong_start_of}
 pub use Rattle.order.specs.Reading.{checks_of}
 pub use Rattle.order.specs.declared.reading.Order.{Order}
-pub use Rattle.order.specs.declared.reading.Reading.{Reading}
-pub use Rattle.order.specs.declared.reading.Reading.TheVariants.{Read, Refused}
 pub use Rattle.refusals.specs.Refusals.{no_refusal}
 unfoldable pub use Rattle.text.specs.Text.{printable}
 pub use Rattle.text.specs.Text.{front_of}

@@ -1,4 +1,6 @@
 -- The order's bytes are read as the struct, field by field, if what is read is in range. Assumes nothing.
+use Rattle.std.specs.Prelude.{Err, Ok, Result}
+use Rattle.refusals.specs.declared.Refusal.{Refusal}
 use Rattle.prelude.proofs.Logic.{◌≡◌, refl, sym, ap, subst, ◌∙◌, Bool, true, false, not, cond, List, [], ◌∷◌, ◌++◌, ℕ, ◌+◌, ◌≤◌, arith}
 use Rattle.prelude.proofs.Logic.{length, T, lit<, lit≤}
 use Rattle.prelude.proofs.Ieee.{Float, binary64, fits, neg, le}
@@ -6,7 +8,7 @@ use Rattle.order_numbers.proofs.Reader.{dec, no_refusal, Near, last_tag, ramadan
 use Rattle.order_numbers.proofs.Reader.{values_of, value_of, has_of, Part, fits_between, value-fits, first, Ramadan, method_of}
 use Rattle.order_numbers.proofs.Reader.{method_number_of, madhab_of, madhab_number_of, rule_of, rule_number_of, rounding_of, rounding_number_of}
 use Rattle.order_numbers.proofs.Reader.{shafaq_of, shafaq_number_of, midnight_of, midnight_number_of, southern_of, southern_number_of, Order}
-use Rattle.order_numbers.proofs.Reader.{Reading, Read, Refused, degrees_in, coordinate_in, byte_or, degrees_or, rounding_or, minutes_or}
+use Rattle.order_numbers.proofs.Reader.{degrees_in, coordinate_in, byte_or, degrees_or, rounding_or, minutes_or}
 use Rattle.order_numbers.proofs.Reader.{interval_or, parameters_in, rules_in, clock_in, ramadan_in, most_interval, most_clock, most_imsak}
 use Rattle.order_numbers.proofs.Reader.{look_up, fits_of, order_of, out_of_range_of, reading_of, Accepted, brought, read_accepted}
 use Rattle.order_numbers.proofs.Reader.{read_passed, refused_by, fits_given, town_value}
@@ -129,15 +131,15 @@ module _ (n : OrderNumbers) (town : List ℕ) (right : (check_of (encode n town)
       λ i. record { at = at i; length = long i }
 
 -- a reading that refuses nothing gives a record
-pub was_read : (s : List ℕ) → (order_numbers_of s).refusal.number ≡ 0 → (o : Order) × (reading_of s ≡ Read o)
+pub was_read : (s : List ℕ) → (order_numbers_of s).refusal.number ≡ 0 → (o : Order) × (reading_of s ≡ Ok o)
 unfolding order_numbers_of order_numbers_in order_refused
 was_read s z = by (reading_of s) refl
   where
-    by : (r : Reading) → reading_of s ≡ r → (o : Order) × (reading_of s ≡ Read o)
-    by (Read o) e = (o, e)
-    by (Refused r) e =
+    by : (r : Result Order Refusal) → reading_of s ≡ r → (o : Order) × (reading_of s ≡ Ok o)
+    by (Ok o) e = (o, e)
+    by (Err r) e =
         let some = (refused_by s r e).some in
-        let none : r.number ≡ 0 = sym (ap (λ (x : Reading). (order_numbers_in x).refusal.number) e) ∙ z in
+        let none : r.number ≡ 0 = sym (ap (λ (x : Result Order Refusal). (order_numbers_in x).refusal.number) e) ∙ z in
         absurd (omega arith)
 
 pub round_trip : RoundTrip

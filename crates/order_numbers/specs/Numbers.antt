@@ -1,6 +1,6 @@
 -- What an order asks for, in numbers, as a host gets it. The refusal's number and place are 0 if nothing is refused. Each other field is 0
 -- if the order is refused.
-use Rattle.std.specs.Prelude.{ℕ, Bool, cond, List, pos}
+use Rattle.std.specs.Prelude.{ℕ, Bool, cond, List, pos, Err, Ok, Result}
 use Rattle.integers.specs.Parts.{P}
 use Rattle.float64.specs.Ops.{dec}
 use Rattle.models.specs.Numbers.{method_number_of, madhab_number_of, rule_number_of, rounding_number_of, shafaq_number_of, midnight_number_of}
@@ -11,8 +11,6 @@ use Rattle.models.specs.Minutes.{no_minutes}
 use Rattle.refusals.specs.Refusals.{no_refusal}
 use Rattle.refusals.specs.declared.Refusal.{Refusal}
 use Rattle.order.specs.declared.reading.Order.{Order}
-use Rattle.order.specs.declared.reading.Reading.{Reading}
-use Rattle.order.specs.declared.reading.Reading.TheVariants as reading
 use Rattle.order.specs.Reading.{reading_of}
 use Rattle.order_numbers.specs.declared.numbers.Choices.{Choices}
 use Rattle.order_numbers.specs.declared.numbers.OrderNumbers.{OrderNumbers}
@@ -76,9 +74,9 @@ order_refused r =
       choices = no_choices_numbers;
     }
 
-unfoldable pub order_numbers_in : Reading → OrderNumbers
-order_numbers_in (reading.Read o) = order_read o
-order_numbers_in (reading.Refused r) = order_refused r
+unfoldable pub order_numbers_in : Result Order Refusal → OrderNumbers
+order_numbers_in (Ok o) = order_read o
+order_numbers_in (Err r) = order_refused r
 
 unfoldable pub order_numbers_of : List ℕ → OrderNumbers
 order_numbers_of s = order_numbers_in (reading_of s)

@@ -10,6 +10,7 @@ use Rattle.models.specs.declared.adjustments.TimeAdjustment.{TimeAdjustment}
 use Rattle.order.specs.Ranges.{most_in_byte}
 use Rattle.order_numbers.specs.declared.numbers.Choices.{Choices}
 use Rattle.order_numbers.specs.declared.numbers.OrderNumbers.{OrderNumbers}
+use Rattle.order_numbers.specs.declared.put.Line.{Line}
 use Rattle.order_numbers.specs.Bytes.{byte_for, word_for, two_bytes, signed_bytes, shift_byte, float_bytes, joined}
 
 -- "town, 1 to 40 bytes": a longer one is cut behind its 41st byte, and is still too long
@@ -78,3 +79,7 @@ encode n town = joined (fields_for n town)
 -- room for all of them, with a town that is cut
 abbrev pub line_length : ℕ
 line_length = 158
+
+-- what is put into a line
+abbrev pub written : Line → List ℕ
+written line = take line.end line.bytes

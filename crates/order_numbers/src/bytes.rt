@@ -1,8 +1,8 @@
 // Numbers as the bytes of a field's value, high byte first, one function for each kind. A number that the bytes can't hold is written as
 // one out of range, and the reader refuses it.
 ghost use Rattle.std.specs.Prelude.{◌≡◌, ◌≤◌};
-ghost use Rattle.order_numbers.specs.Bytes.{up_to, byte_for, word_for, two_bytes, sixteen_for, signed_bytes, shift_for, shift_byte};
-ghost use Rattle.order_numbers.specs.Bytes.{eight_bytes, float_bytes};
+ghost use Rattle.order_numbers.specs.Bytes.{byte_for, word_for, two_bytes, sixteen_for, signed_bytes, shift_for, shift_byte};
+ghost use Rattle.order_numbers.specs.Bytes.{float_bytes};
 
 use float64::bits::to_bits;
 use integers::parts::{above, below};
@@ -12,36 +12,26 @@ const MINUS_ZERO: u64 = 0x8000_0000_0000_0000;
 
 const NAN: u64 = 0x7ff8_0000_0000_0000;
 
-fn up_to(most: u32, n: u32) -> u32
-    ensures value { result ≡ up_to most n }
-    ensures upper_bound { result ≤ most }
-{
-    if n <= most {
-        return n;
-    }
-    most
-}
-
 pub fn byte_for(n: u32) -> u8
     ensures { result ≡ byte_for n }
 {
-    up_to(255, n) as u8
+    n.min(255) as u8
 }
 
 fn two_bytes(n: u32) -> [u8; 2]
     requires { n ≤ 65535 }
     ensures { result ≡ two_bytes n }
 {
-    [(n / 256) as u8, (n % 256) as u8]
+    (n as u16).to_be_bytes()
 }
 
 pub fn word_bytes(n: u32) -> [u8; 2]
     ensures { result ≡ two_bytes (word_for n) }
 {
-    two_bytes(up_to(65535, n))
+    two_bytes(n.min(65535))
 }
 
-// A signed number in sixteen bits, from how far it is above and below zero.
+// A signed number in sixteen bits, from how far it is above and below zero, as the definition sixteen_for has it.
 fn sixteen_for(above: u64, below: u64) -> u32
     ensures value { result ≡ sixteen_for above below }
     ensures upper_bound { result ≤ 65535 }
@@ -61,6 +51,7 @@ pub fn signed_bytes(z: i32) -> [u8; 2]
     two_bytes(sixteen_for(above(z as i64), below(z as i64)))
 }
 
+// Tried as a match on z: the proof did not close, since no fact of a signed match's arms can be cited.
 fn shift_for(above: u64, below: u64) -> u8
     ensures { result ≡ shift_for above below }
 {
@@ -80,34 +71,12 @@ pub fn shift_byte(z: i32) -> u8
     shift_for(above(z as i64), below(z as i64))
 }
 
-fn eight_bytes(n: u64) -> [u8; 8]
-    ensures { result ≡ eight_bytes n }
-{
-    let b = n / 256;
-    let c = b / 256;
-    let d = c / 256;
-    let e = d / 256;
-    let f = e / 256;
-    let g = f / 256;
-    let h = g / 256;
-    [
-        (h % 256) as u8,
-        (g % 256) as u8,
-        (f % 256) as u8,
-        (e % 256) as u8,
-        (d % 256) as u8,
-        (c % 256) as u8,
-        (b % 256) as u8,
-        (n % 256) as u8,
-    ]
-}
-
 pub fn float_bytes(x: f64) -> [u8; 8]
     ensures { result ≡ float_bytes x }
 {
     let n = to_bits(x);
     if n == MINUS_ZERO {
-        return eight_bytes(NAN);
+        return NAN.to_be_bytes();
     }
-    eight_bytes(n)
+    n.to_be_bytes()
 }

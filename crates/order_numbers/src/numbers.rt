@@ -1,14 +1,15 @@
 // What an order asks for, in numbers.
 ghost use Rattle.std.specs.Prelude.{◌≡◌};
 ghost use Rattle.integers.specs.Parts.{P};
-ghost use Rattle.order_numbers.specs.Numbers.{set_number_of, choices_numbers_of, no_choices_numbers, order_read, order_refused};
+ghost use Rattle.order_numbers.specs.Numbers.{choices_numbers_of, no_choices_numbers, order_read, order_refused};
 ghost use Rattle.order_numbers.specs.Numbers.{order_numbers_in, order_numbers_of};
 
 use calendar::dates::Date;
 use fields::values::Part;
 use integers::parts::above;
 use models::adjustments::TimeAdjustment;
-use order::reading::{Order, Reading, read};
+use models::numbered::Numbered;
+use order::reading::{Order, read};
 use refusals::Refusal;
 use unit::Coordinates;
 
@@ -44,6 +45,7 @@ pub struct OrderNumbers {
     pub minutes: TimeAdjustment,
     pub choices: Choices,
 }
+
 // An interval that is read is never below 0 (the law `interval` of proofs/NumbersLaws.antt).
 fn interval(minutes: i32) -> u32
     ensures { result ≡ P minutes }
@@ -51,28 +53,16 @@ fn interval(minutes: i32) -> u32
     above(minutes as i64) as u32
 }
 
-fn is_set(set: bool) -> u32
-    ensures { result ≡ set_number_of set }
-{
-    if set {
-        return 1;
-    }
-    0
-}
-
 fn choices_read(order: Order) -> Choices
     ensures { result ≡ choices_numbers_of order }
 {
-    let setting = order.setting;
-    let rules = setting.rules;
-    let midnight = rules.midnight;
-    let southern = rules.southern;
+    let rules = order.setting.rules;
     let ramadan = order.ramadan;
     Choices {
-        carry: midnight.number(),
+        carry: rules.midnight.number(),
         clock: order.clock,
-        southern: southern.number(),
-        ramadan: is_set(ramadan.set),
+        southern: rules.southern.number(),
+        ramadan: u32::from(ramadan.set),
         imsak: ramadan.imsak,
         shift: ramadan.shift,
     }
@@ -94,32 +84,22 @@ fn no_choices() -> Choices
 fn order_read(order: Order) -> OrderNumbers
     ensures { result ≡ order_read order }
 {
-    let town = order.town;
-    let date = order.date;
-    let setting = order.setting;
-    let coordinates = setting.coordinates;
-    let parameters = setting.parameters;
-    let method = parameters.method;
-    let madhab = parameters.madhab;
-    let high_latitude_rule = parameters.high_latitude_rule;
-    let rounding = parameters.rounding;
-    let shafaq = parameters.shafaq;
-    let own = parameters.adjustments;
+    let parameters = order.setting.parameters;
     OrderNumbers {
         refusal: Refusal::none(),
-        town: town,
-        date: date,
+        town: order.town,
+        date: order.date,
         rows: order.rows,
-        coordinates: coordinates,
+        coordinates: order.setting.coordinates,
         fajr_angle: parameters.fajr_angle,
         isha_angle: parameters.isha_angle,
-        method: method.number(),
-        madhab: madhab.number(),
-        high_latitude_rule: high_latitude_rule.number(),
-        rounding: rounding.number(),
-        shafaq: shafaq.number(),
+        method: parameters.method.number(),
+        madhab: parameters.madhab.number(),
+        high_latitude_rule: parameters.high_latitude_rule.number(),
+        rounding: parameters.rounding.number(),
+        shafaq: parameters.shafaq.number(),
         isha_interval: interval(parameters.isha_interval),
-        minutes: own,
+        minutes: parameters.adjustments,
         choices: choices_read(order),
     }
 }
@@ -128,7 +108,7 @@ fn order_refused(refusal: Refusal) -> OrderNumbers
     ensures { result ≡ order_refused refusal }
 {
     OrderNumbers {
-        refusal: refusal,
+        refusal,
         town: Part { at: 0, length: 0 },
         date: Date::new(0, 0, 0),
         rows: 0,
@@ -147,12 +127,12 @@ fn order_refused(refusal: Refusal) -> OrderNumbers
 }
 
 // What a reading gives: the record in numbers, or its refusal.
-pub fn numbers_of(reading: Reading) -> OrderNumbers
+pub fn numbers_of(reading: Result<Order, Refusal>) -> OrderNumbers
     ensures { result ≡ order_numbers_in reading }
 {
     match reading {
-        Reading::Read(order) => order_read(order),
-        Reading::Refused(refusal) => order_refused(refusal),
+        Ok(order) => order_read(order),
+        Err(refusal) => order_refused(refusal),
     }
 }
 

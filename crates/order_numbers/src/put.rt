@@ -1,8 +1,8 @@
-// The fields of an order, put one behind the other at the front of a line. Each put returns the offset behind its field.
-ghost use Rattle.std.specs.Prelude.{◌≡◌, [], ◌∷◌, ◌++◌, ◌+◌, ◌≤◌, length, take};
+// The fields of an order, put one behind the other at the front of a line.
+ghost use Rattle.std.specs.Prelude.{◌≡◌, [], ◌∷◌, ◌++◌, ◌+◌, ◌≤◌, length};
 ghost use Rattle.order_numbers.specs.Bytes.{byte_for, float_bytes, field_bytes, joined};
 ghost use Rattle.order_numbers.specs.Values.{town_bytes, date_bytes, rows_bytes, minutes_bytes, ramadan_bytes, unsaid};
-ghost use Rattle.order_numbers.specs.Values.{start_fields, setting_fields, time_fields, rule_fields, ramadan_fields, line_length, encode};
+ghost use Rattle.order_numbers.specs.Values.{start_fields, setting_fields, time_fields, rule_fields, ramadan_fields, line_length, written, encode};
 
 use super::bytes::{byte_for, float_bytes, shift_byte, signed_bytes, word_bytes};
 use super::numbers::{Choices, OrderNumbers};
@@ -19,35 +19,12 @@ pub const LINE_LENGTH: usize = 158;
 // A longer town is cut to this length, which is one too long: the reader refuses it.
 const TOWN_CUT: usize = LONGEST_TOWN as usize + 1;
 
-// Puts a field: its header, and its value behind it.
-fn put_field(line: &mut [u8], at: usize, tag: u32, value: &[u8]) -> usize
-    requires { (length line.old ≡ line_length) × (at + 3 + length value.now ≤ line_length) × (tag ≤ 255) }
-    ensures value { result ≡ at + 3 + length value.now }
-    ensures line_after { take result line.new ≡ take at line.old ++ field_bytes tag value.now }
-{
-    let n = value.len();
-    let header = [tag as u8, (n / 256) as u8, (n % 256) as u8];
-    put(&mut line[..], at, &header);
-    put(&mut line[..], at + 3, value);
-    at + 3 + n
-}
-
-fn put_byte(line: &mut [u8], at: usize, tag: u32, n: u32) -> usize
-    requires { (length line.old ≡ line_length) × (at + 4 ≤ line_length) × (tag ≤ 255) }
-    ensures value { result ≡ at + 4 }
-    ensures line_after { take result line.new ≡ take at line.old ++ field_bytes tag (byte_for n ∷ []) }
-{
-    let bytes = [byte_for(n)];
-    put_field(&mut line[..], at, tag, &bytes)
-}
-
-fn put_float(line: &mut [u8], at: usize, tag: u32, x: f64) -> usize
-    requires { (length line.old ≡ line_length) × (at + 11 ≤ line_length) × (tag ≤ 255) }
-    ensures value { result ≡ at + 11 }
-    ensures line_after { take result line.new ≡ take at line.old ++ field_bytes tag (float_bytes x) }
-{
-    let bytes = float_bytes(x);
-    put_field(&mut line[..], at, tag, &bytes)
+// A line that fields are put into.
+#[derive(Drop)]
+pub struct Line {
+    pub bytes: [u8; LINE_LENGTH],
+    // What is put is before this offset.
+    pub end: usize,
 }
 
 fn date_bytes(date: Date) -> [u8; 4]
@@ -72,89 +49,6 @@ fn minutes_bytes(m: TimeAdjustment) -> [u8; 12]
     ]
 }
 
-fn put_town(line: &mut [u8], town: &[u8]) -> usize
-    requires { length line.old ≡ line_length }
-    ensures upper_bound { result ≤ 44 }
-    ensures line_after { take result line.new ≡ field_bytes 1 (town_bytes town.now) }
-{
-    if town.len() <= TOWN_CUT {
-        return put_field(&mut line[..], 0, tags::TOWN, town);
-    }
-    put_field(&mut line[..], 0, tags::TOWN, &town[..TOWN_CUT])
-}
-
-fn put_rows(line: &mut [u8], at: usize, rows: u32) -> usize
-    requires { (length line.old ≡ line_length) × (at + 5 ≤ line_length) }
-    ensures value { result ≡ at + 3 + length (rows_bytes rows) }
-    ensures line_after { take result line.new ≡ take at line.old ++ field_bytes 3 (rows_bytes rows) }
-{
-    if rows <= MOST_IN_BYTE {
-        return put_byte(&mut line[..], at, tags::ROWS, rows);
-    }
-    let bytes = word_bytes(rows);
-    put_field(&mut line[..], at, tags::ROWS, &bytes)
-}
-
-// Tags 1 to 3.
-fn put_start(line: &mut [u8], date: Date, rows: u32, town: &[u8]) -> usize
-    requires { length line.old ≡ line_length }
-    ensures upper_bound { result ≤ 56 }
-    ensures line_after { take result line.new ≡ joined (start_fields date rows town.now) }
-{
-    let at = put_town(&mut line[..], town);
-    let bytes = date_bytes(date);
-    let end = put_field(&mut line[..], at, tags::DATE, &bytes);
-    put_rows(&mut line[..], end, rows)
-}
-
-// Tags 4 to 10.
-fn put_settings(line: &mut [u8], at: usize, n: OrderNumbers) -> usize
-    requires { (length line.old ≡ line_length) × (at ≤ 56) }
-    ensures value { result ≡ at + 42 }
-    ensures line_after { take result line.new ≡ take at line.old ++ joined (setting_fields n) }
-{
-    let place = n.coordinates;
-    let at = put_float(&mut line[..], at, tags::LATITUDE, place.latitude);
-    let at = put_float(&mut line[..], at, tags::LONGITUDE, place.longitude);
-    let at = put_byte(&mut line[..], at, tags::METHOD, n.method);
-    let at = put_byte(&mut line[..], at, tags::MADHAB, n.madhab);
-    let at = put_byte(
-        &mut line[..],
-        at,
-        tags::HIGH_LATITUDE_RULE,
-        n.high_latitude_rule,
-    );
-    let at = put_byte(&mut line[..], at, tags::ROUNDING, n.rounding);
-    put_byte(&mut line[..], at, tags::SHAFAQ, n.shafaq)
-}
-
-// Tags 11 to 14.
-fn put_times(line: &mut [u8], at: usize, n: OrderNumbers) -> usize
-    requires { (length line.old ≡ line_length) × (at ≤ 98) }
-    ensures value { result ≡ at + 42 }
-    ensures line_after { take result line.new ≡ take at line.old ++ joined (time_fields n) }
-{
-    let own = n.minutes;
-    let minutes = minutes_bytes(own);
-    let interval = word_bytes(n.isha_interval);
-    let at = put_field(&mut line[..], at, tags::MINUTES, &minutes);
-    let at = put_float(&mut line[..], at, tags::FAJR_ANGLE, n.fajr_angle);
-    let at = put_float(&mut line[..], at, tags::ISHA_ANGLE, n.isha_angle);
-    put_field(&mut line[..], at, tags::ISHA_INTERVAL, &interval)
-}
-
-// Tags 15 to 17.
-fn put_rules(line: &mut [u8], at: usize, c: Choices) -> usize
-    requires { (length line.old ≡ line_length) × (at ≤ 140) }
-    ensures value { result ≡ at + 13 }
-    ensures line_after { take result line.new ≡ take at line.old ++ joined (rule_fields c) }
-{
-    let minutes = signed_bytes(c.clock);
-    let at = put_byte(&mut line[..], at, tags::MIDNIGHT, c.carry);
-    let at = put_field(&mut line[..], at, tags::CLOCK, &minutes);
-    put_byte(&mut line[..], at, tags::SOUTHERN, c.southern)
-}
-
 fn ramadan_bytes(c: Choices) -> [u8; 2]
     ensures { result ≡ ramadan_bytes c }
 {
@@ -170,30 +64,138 @@ fn is_unsaid(c: Choices) -> bool
     (c.ramadan == 0) & (c.imsak == 0) & (c.shift <= 0) & (0 <= c.shift)
 }
 
-// Tag 20, for a Ramadan sheet.
-fn put_ramadan(line: &mut [u8], at: usize, c: Choices) -> usize
-    requires { (length line.old ≡ line_length) × (at ≤ 153) }
-    ensures upper_bound { result ≤ line_length }
-    ensures line_after { take result line.new ≡ take at line.old ++ joined (ramadan_fields c) }
-{
-    if is_unsaid(c) {
-        return at;
+impl Line {
+    fn empty() -> Line
+        ensures end { result.end ≡ 0 }
+        ensures line_after { written result ≡ [] }
+    {
+        Line {
+            bytes: [0; LINE_LENGTH],
+            end: 0,
+        }
     }
-    let bytes = ramadan_bytes(c);
-    put_field(&mut line[..], at, tags::RAMADAN, &bytes)
-}
 
-// All fields.
-pub fn put_order(line: &mut [u8], n: OrderNumbers, town: &[u8]) -> usize
-    requires { length line.old ≡ line_length }
-    ensures upper_bound { result ≤ line_length }
-    ensures line_after { take result line.new ≡ encode n town.now }
-{
-    let date = n.date;
-    let choices = n.choices;
-    let at = put_start(&mut line[..], date, n.rows, town);
-    let at = put_settings(&mut line[..], at, n);
-    let at = put_times(&mut line[..], at, n);
-    let at = put_rules(&mut line[..], at, choices);
-    put_ramadan(&mut line[..], at, choices)
+    // Puts a field: its header, and its value behind it.
+    fn field(&mut self, tag: u32, value: &[u8])
+        requires { (self.old.end + 3 + length value.now ≤ line_length) × (tag ≤ 255) }
+        ensures end { self.new.end ≡ self.old.end + 3 + length value.now }
+        ensures line_after { written self.new ≡ written self.old ++ field_bytes tag value.now }
+    {
+        let n = value.len();
+        let header = [tag as u8, (n / 256) as u8, (n % 256) as u8];
+        put(&mut self.bytes[..], self.end, &header);
+        put(&mut self.bytes[..], self.end + 3, value);
+        self.end = self.end + 3 + n;
+    }
+
+    fn byte(&mut self, tag: u32, n: u32)
+        requires { (self.old.end + 4 ≤ line_length) × (tag ≤ 255) }
+        ensures end { self.new.end ≡ self.old.end + 4 }
+        ensures line_after { written self.new ≡ written self.old ++ field_bytes tag (byte_for n ∷ []) }
+    {
+        self.field(tag, &[byte_for(n)]);
+    }
+
+    fn float(&mut self, tag: u32, x: f64)
+        requires { (self.old.end + 11 ≤ line_length) × (tag ≤ 255) }
+        ensures end { self.new.end ≡ self.old.end + 11 }
+        ensures line_after { written self.new ≡ written self.old ++ field_bytes tag (float_bytes x) }
+    {
+        self.field(tag, &float_bytes(x));
+    }
+
+    fn town(&mut self, town: &[u8])
+        requires { self.old.end ≡ 0 }
+        ensures end { self.new.end ≤ 44 }
+        ensures line_after { written self.new ≡ written self.old ++ field_bytes 1 (town_bytes town.now) }
+    {
+        self.field(tags::TOWN, &town[..town.len().min(TOWN_CUT)]);
+    }
+
+    fn rows(&mut self, rows: u32)
+        requires { self.old.end + 5 ≤ line_length }
+        ensures end { self.new.end ≡ self.old.end + 3 + length (rows_bytes rows) }
+        ensures line_after { written self.new ≡ written self.old ++ field_bytes 3 (rows_bytes rows) }
+    {
+        if rows <= MOST_IN_BYTE {
+            self.byte(tags::ROWS, rows);
+        } else {
+            self.field(tags::ROWS, &word_bytes(rows));
+        }
+    }
+
+    // Tags 1 to 3.
+    fn start(&mut self, date: Date, rows: u32, town: &[u8])
+        requires { self.old.end ≡ 0 }
+        ensures end { self.new.end ≤ 56 }
+        ensures line_after { written self.new ≡ written self.old ++ joined (start_fields date rows town.now) }
+    {
+        self.town(town);
+        self.field(tags::DATE, &date_bytes(date));
+        self.rows(rows);
+    }
+
+    // Tags 4 to 10.
+    fn settings(&mut self, n: OrderNumbers)
+        requires { self.old.end ≤ 56 }
+        ensures end { self.new.end ≡ self.old.end + 42 }
+        ensures line_after { written self.new ≡ written self.old ++ joined (setting_fields n) }
+    {
+        self.float(tags::LATITUDE, n.coordinates.latitude);
+        self.float(tags::LONGITUDE, n.coordinates.longitude);
+        self.byte(tags::METHOD, n.method);
+        self.byte(tags::MADHAB, n.madhab);
+        self.byte(tags::HIGH_LATITUDE_RULE, n.high_latitude_rule);
+        self.byte(tags::ROUNDING, n.rounding);
+        self.byte(tags::SHAFAQ, n.shafaq);
+    }
+
+    // Tags 11 to 14.
+    fn times(&mut self, n: OrderNumbers)
+        requires { self.old.end ≤ 98 }
+        ensures end { self.new.end ≡ self.old.end + 42 }
+        ensures line_after { written self.new ≡ written self.old ++ joined (time_fields n) }
+    {
+        self.field(tags::MINUTES, &minutes_bytes(n.minutes));
+        self.float(tags::FAJR_ANGLE, n.fajr_angle);
+        self.float(tags::ISHA_ANGLE, n.isha_angle);
+        self.field(tags::ISHA_INTERVAL, &word_bytes(n.isha_interval));
+    }
+
+    // Tags 15 to 17.
+    fn rules(&mut self, c: Choices)
+        requires { self.old.end ≤ 140 }
+        ensures end { self.new.end ≡ self.old.end + 13 }
+        ensures line_after { written self.new ≡ written self.old ++ joined (rule_fields c) }
+    {
+        self.byte(tags::MIDNIGHT, c.carry);
+        self.field(tags::CLOCK, &signed_bytes(c.clock));
+        self.byte(tags::SOUTHERN, c.southern);
+    }
+
+    // Tag 20, for a Ramadan sheet.
+    fn ramadan(&mut self, c: Choices)
+        requires { self.old.end ≤ 153 }
+        ensures end { self.new.end ≤ line_length }
+        ensures line_after { written self.new ≡ written self.old ++ joined (ramadan_fields c) }
+    {
+        if is_unsaid(c) {
+            return;
+        }
+        self.field(tags::RAMADAN, &ramadan_bytes(c));
+    }
+
+    // All fields.
+    pub fn of_order(n: OrderNumbers, town: &[u8]) -> Line
+        ensures end { result.end ≤ line_length }
+        ensures line_after { written result ≡ encode n town.now }
+    {
+        let mut line = Line::empty();
+        line.start(n.date, n.rows, town);
+        line.settings(n);
+        line.times(n);
+        line.rules(n.choices);
+        line.ramadan(n.choices);
+        line
+    }
 }

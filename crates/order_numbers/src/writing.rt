@@ -5,8 +5,8 @@ ghost use Rattle.order_numbers.specs.Values.{line_length};
 ghost use Rattle.order_numbers.specs.Writing.{refused_of, call_in, order_call_of};
 
 use super::numbers::OrderNumbers;
-use super::put::{LINE_LENGTH, put_order};
-use order::reading::{Reading, read};
+use super::put::Line;
+use order::reading::read;
 use refusals::{BUFFER_SHORT, Refusal};
 use text::put::put;
 
@@ -21,10 +21,7 @@ pub struct WrittenOrder {
 fn refuse(refusal: Refusal) -> WrittenOrder
     ensures { result ≡ refused_of refusal }
 {
-    WrittenOrder {
-        refusal: refusal,
-        length: 0,
-    }
+    WrittenOrder { refusal, length: 0 }
 }
 
 // Reads the order's bytes back. A refusal of the reader is returned before the buffer's length is checked.
@@ -34,8 +31,8 @@ fn hand_out(text: &[u8], buffer: &mut [u8]) -> WrittenOrder
     ensures buffer_after { buffer.new ≡ (call_in (reading_of text.now) text.now buffer.old).buffer }
 {
     match read(text) {
-        Reading::Refused(refusal) => refuse(refusal),
-        Reading::Read(_) => {
+        Err(refusal) => refuse(refusal),
+        Ok(_) => {
             if text.len() > buffer.len() {
                 return refuse(Refusal::new(BUFFER_SHORT, 0));
             }
@@ -54,7 +51,6 @@ pub fn write_order(numbers: OrderNumbers, town: &[u8], buffer: &mut [u8]) -> Wri
     ensures value { result ≡ (order_call_of numbers town.now buffer.old).answer }
     ensures buffer_after { buffer.new ≡ (order_call_of numbers town.now buffer.old).buffer }
 {
-    let mut line = [0u8; LINE_LENGTH];
-    let length = put_order(&mut line, numbers, town);
-    hand_out(&line[..length], &mut buffer[..])
+    let line = Line::of_order(numbers, town);
+    hand_out(&line.bytes[..line.end], &mut buffer[..])
 }

@@ -1,8 +1,9 @@
 -- What a call that asks for rows returns, case by case. Assumes nothing.
+use Rattle.std.specs.Prelude.{Err, Ok}
 use Rattle.prelude.proofs.Logic.{◌≡◌, refl, sym, ap, ◌∙◌, List, [], ◌∷◌, ℕ, ◌+◌, ◌-◌, ◌≤◌, ◌<◌, arith, length, lt-ltb, le-ltb}
 use Rattle.braille.specs.Braille.{dots_of}
 use Rattle.days.specs.Calls.{lacks_row}
-use Rattle.order.specs.declared.reading.{Order.Order, Reading.TheVariants.Read, Reading.TheVariants.Refused}
+use Rattle.order.specs.declared.reading.{Order.Order}
 use Rattle.order.specs.Reading.{reading_of}
 use Rattle.refusals.specs.{Refusals.refusal, Refusals.no_refusal, declared.Refusal.Refusal}
 use Rattle.text.specs.Text.{front_of}
@@ -78,17 +79,17 @@ module _ (asked : Order → Rows) (least : ℕ) (s buffer : List ℕ) where
   called-short h result r is e = rw (lt-ltb (length buffer) least h) (e ∙ ap refused_of is, refl)
 
   module _ (h : least ≤ length buffer) where
-    pub order-read : (o : Order) → reading_of s ≡ Read o → asked_call_of asked least s buffer ≡ put_call_of (asked o) buffer
+    pub order-read : (o : Order) → reading_of s ≡ Ok o → asked_call_of asked least s buffer ≡ put_call_of (asked o) buffer
     unfolding asked_call_of
     order-read o e = simp (le-ltb (length buffer) least h, e)
 
-    pub order-refused : (r : Refusal) → reading_of s ≡ Refused r → asked_call_of asked least s buffer ≡ refusing r buffer
+    pub order-refused : (r : Refusal) → reading_of s ≡ Err r → asked_call_of asked least s buffer ≡ refusing r buffer
     unfolding asked_call_of
     order-refused r e = simp (le-ltb (length buffer) least h, e)
 
-    pub called-read : (o : Order) → reading_of s ≡ Read o → (result : Punched) (after : List ℕ)
+    pub called-read : (o : Order) → reading_of s ≡ Ok o → (result : Punched) (after : List ℕ)
         → (result ≡ (put_call_of (asked o) buffer).answer) × (after ≡ (put_call_of (asked o) buffer).buffer) → Called result after
     called-read o e result after p = rw (order-read o e) p
 
-    pub called-refused : (r : Refusal) → reading_of s ≡ Refused r → (result : Punched) → result ≡ refused_of r → Called result buffer
+    pub called-refused : (r : Refusal) → reading_of s ≡ Err r → (result : Punched) → result ≡ refused_of r → Called result buffer
     called-refused r e result is = rw (order-refused r e) (is, refl)

@@ -1,9 +1,10 @@
 -- A host's calls on a page give the page, for all scratches that it lends. Assumes nothing.
+use Rattle.std.specs.Prelude.{Err, Ok, Result}
 use Rattle.prelude.proofs.Logic.{◌≡◌, refl, sym, ap, ◌∙◌, List, [], ◌∷◌, ◌++◌, ℕ, zero, suc, ◌+◌, ◌-◌, ◌*◌, ◌/◌, ◌≤◌, ◌<◌, min, arith, ltb}
 use Rattle.prelude.proofs.Logic.{length, take, drop, drop_of_length-le, take_all, take_at, drop-drop, ltb-true, ltb-false, cases}
 use Rattle.braille.specs.Braille.{dots_of}
 use Rattle.days.specs.Calls.{lacks_row}
-use Rattle.order.specs.declared.reading.{Order.Order, Reading.Reading, Reading.TheVariants.Read, Reading.TheVariants.Refused}
+use Rattle.order.specs.declared.reading.{Order.Order}
 use Rattle.order.specs.Reading.{reading_of}
 use Rattle.refusals.specs.{Refusals.no_refusal, declared.Refusal.Refusal}
 use Rattle.pages.specs.Answers.{CellsCall, punched_of, refused_of, put_call_of, asked_call_of, piece_in, page_call_of}
@@ -30,7 +31,7 @@ rest rows first room =
     ∙ ap cells_of (took room (drop first rows))
 
 -- an order that is read
-module _ (s : List ℕ) (page : ℕ) (o : Order) (e : reading_of s ≡ Read o) where
+module _ (s : List ℕ) (page : ℕ) (o : Order) (e : reading_of s ≡ Ok o) where
   -- What a call returns if the page has the row `first`: how many rows the piece has, at least one, their dots and their cells.
   record Piece (first : ℕ) (scratch : List ℕ) : Type 0 where
     none : (page_call_of s page first scratch).answer.refusal ≡ no_refusal
@@ -153,7 +154,7 @@ module _ (s : List ℕ) (page : ℕ) (o : Order) (e : reading_of s ≡ Read o) w
       (g.0 ∙ sym w.0, g.1 ∙ sym w.1)
 
 -- a refused order: no call gives a cell
-module _ (s : List ℕ) (page : ℕ) (r : Refusal) (e : reading_of s ≡ Refused r) where
+module _ (s : List ℕ) (page : ℕ) (r : Refusal) (e : reading_of s ≡ Err r) where
   refused-answer : (first : ℕ) (scratch : List ℕ) → 39 ≤ length scratch → (page_call_of s page first scratch).answer ≡ refused_of r
   refused-answer first scratch long = same_answer (order-refused (piece_in page first scratch) 39 s scratch long r e)
 
@@ -188,19 +189,19 @@ pieces_are_the_page s page lent whole long room =
       same = λ cells dots calls. by-reading (reading_of s) refl calls;
     }
   where
-    by-reading : (r : Reading) → reading_of s ≡ r → {cells : List ℕ} {dots : ℕ} → Calls s page lent 0 0 cells dots
+    by-reading : (r : Result Order Refusal) → reading_of s ≡ r → {cells : List ℕ} {dots : ℕ} → Calls s page lent 0 0 cells dots
         → (cells ≡ cells_got page 0 s whole) × (dots ≡ (page_call_of s page 0 whole).answer.dots)
-    by-reading (Read o) e calls = read_same s page o e lent long whole room calls
-    by-reading (Refused r) e calls = refused-same s page r e lent long whole room calls
+    by-reading (Ok o) e calls = read_same s page o e lent long whole room calls
+    by-reading (Err r) e calls = refused-same s page r e lent long whole room calls
 
 pub at_once_as_before : AtOnceAsBefore
 at_once_as_before s page scratch room = by-reading (reading_of s) refl
   where
-    by-reading : (r : Reading) → reading_of s ≡ r → page_call_of s page 0 scratch ≡ asked_call_of (λ o. page_of o page) 975 s scratch
-    by-reading (Read o) e =
+    by-reading : (r : Result Order Refusal) → reading_of s ≡ r → page_call_of s page 0 scratch ≡ asked_call_of (λ o. page_of o page) 975 s scratch
+    by-reading (Ok o) e =
         order-read (piece_in page 0 scratch) 39 s scratch (omega arith) o e
         ∙ ap (λ (l : Rows). put_call_of l scratch) (whole-piece s page o e scratch room)
         ∙ sym (order-read (λ o. page_of o page) 975 s scratch room o e)
-    by-reading (Refused r) e =
+    by-reading (Err r) e =
         order-refused (piece_in page 0 scratch) 39 s scratch (omega arith) r e
         ∙ sym (order-refused (λ o. page_of o page) 975 s scratch room r e)

@@ -1,11 +1,9 @@
 -- Document 02, requests 2 and 9: what the calls on a row and on a page of cells return, and every byte of the lent buffer after them.
-use Rattle.std.specs.Prelude.{ℕ, ◌/◌, cond, List, [], ◌∷◌, ltb, length}
+use Rattle.std.specs.Prelude.{ℕ, ◌/◌, cond, List, [], ◌∷◌, ltb, length, Err, Ok, Result}
 use Rattle.braille.specs.Braille.{dots_of}
 use Rattle.braille.specs.Cells.{row_length}
 use Rattle.days.specs.Calls.{lacks_row}
 use Rattle.order.specs.declared.reading.Order.{Order}
-use Rattle.order.specs.declared.reading.Reading.{Reading}
-use Rattle.order.specs.declared.reading.Reading.TheVariants as reading
 use Rattle.order.specs.Reading.{reading_of}
 use Rattle.refusals.specs.Refusals.{refusal, no_refusal, buffer_short}
 use Rattle.refusals.specs.declared.Refusal.{Refusal}
@@ -34,9 +32,9 @@ unfoldable pub put_call_of : Rows → List ℕ → CellsCall
 put_call_of [] buffer = refusing lacks_row buffer
 put_call_of (row ∷ rows) buffer = record { answer = punched_of (row ∷ rows); buffer = front_of (cells_of (row ∷ rows)) buffer }
 
-abbrev pub call_in : (Order → Rows) → Reading → List ℕ → CellsCall
-call_in asked (reading.Read o) buffer = put_call_of (asked o) buffer
-call_in asked (reading.Refused r) buffer = refusing r buffer
+abbrev pub call_in : (Order → Rows) → Result Order Refusal → List ℕ → CellsCall
+call_in asked (Ok o) buffer = put_call_of (asked o) buffer
+call_in asked (Err r) buffer = refusing r buffer
 
 -- a call on an order's bytes that asks for some of its rows. A buffer under `least` bytes is 9; this is checked first
 unfoldable pub asked_call_of : (Order → Rows) → ℕ → List ℕ → List ℕ → CellsCall

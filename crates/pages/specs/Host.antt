@@ -1,10 +1,9 @@
 -- Document 02, request 9, over the page call as a host makes it: "Calls on from row 0 to the page's end must give, for every scratch length
 -- from 39 up, the same cells in the same order and the same dot total as 975 does."
-use Rattle.std.specs.Prelude.{ℕ, ◌+◌, ◌*◌, ◌≤◌, ◌≡◌, List, [], ◌++◌, length, take}
+use Rattle.std.specs.Prelude.{ℕ, ◌+◌, ◌*◌, ◌≤◌, ◌≡◌, List, [], ◌++◌, length, take, Ok}
 use Rattle.braille.specs.Cells.{row_length}
 use Rattle.days.specs.Calls.{lacks_row}
 use Rattle.order.specs.declared.reading.Order.{Order}
-use Rattle.order.specs.declared.reading.Reading.TheVariants.{Read}
 use Rattle.order.specs.Reading.{reading_of}
 use Rattle.refusals.specs.Refusals.{no_refusal}
 use Rattle.pages.specs.Answers.{asked_call_of, page_call_of}
@@ -28,7 +27,7 @@ pub data Calls (s : List ℕ) (page : ℕ) (lent : ℕ → List ℕ) : ℕ → �
 
 -- the calls from row 0 on end for every order that is read; and on any bytes, calls that end have got what one call with `whole` gives
 pub record GiveThePage (s : List ℕ) (page : ℕ) (lent : ℕ → List ℕ) (whole : List ℕ) : Type 0 where
-  pub ends : (o : Order) → reading_of s ≡ Read o → (cells : List ℕ) × (dots : ℕ) × Calls s page lent 0 0 cells dots
+  pub ends : (o : Order) → reading_of s ≡ Ok o → (cells : List ℕ) × (dots : ℕ) × Calls s page lent 0 0 cells dots
   pub same : (cells : List ℕ) (dots : ℕ) → Calls s page lent 0 0 cells dots
       → (cells ≡ cells_got page 0 s whole) × (dots ≡ (page_call_of s page 0 whole).answer.dots)
 

@@ -18,7 +18,7 @@ impl Punched {
         ensures { result ≡ refused_of refusal }
     {
         Punched {
-            refusal: refusal,
+            refusal,
             rows: 0,
             dots: 0,
         }

@@ -9,7 +9,7 @@ use super::answer::Punched;
 use super::rows::write_rows;
 use braille::row::ROW_CELLS;
 use days::day::lacks_row;
-use order::reading::{Order, Reading, read};
+use order::reading::{Order, read};
 use refusals::{BUFFER_SHORT, Refusal};
 
 const PAGE_ROWS: u32 = 25;
@@ -26,18 +26,14 @@ fn rows_on(order: Order, page: u32) -> u32
         return 0;
     }
     let left = order.rows - before as u32;
-    if left < PAGE_ROWS { left } else { PAGE_ROWS }
+    left.min(PAGE_ROWS)
 }
 
 // The number of rows that fit and are left.
 fn rows_that_fit(room: usize, left: u32) -> u32
     ensures { result ≡ min room left }
 {
-    if room < left as usize {
-        room as u32
-    } else {
-        left
-    }
+    room.min(left as usize) as u32
 }
 
 fn write_read(order: Order, page: u32, first: u32, scratch: &mut [u8]) -> Punched
@@ -50,12 +46,7 @@ fn write_read(order: Order, page: u32, first: u32, scratch: &mut [u8]) -> Punche
         return Punched::refused(lacks_row());
     }
     let taken = rows_that_fit(scratch.len() / ROW_CELLS, count - first);
-    write_rows(
-        order,
-        PAGE_ROWS * (page - 1) + first,
-        taken,
-        &mut scratch[..],
-    )
+    write_rows(order, PAGE_ROWS * (page - 1) + first, taken, scratch)
 }
 
 // Writes the rows of a page from its row `first` on, as many as fit the scratch and are left. Returns 9 if the scratch is shorter than one
@@ -68,7 +59,7 @@ pub fn write_page(order: &[u8], page: u32, first: u32, scratch: &mut [u8]) -> Pu
         return Punched::refused(Refusal::new(BUFFER_SHORT, 0));
     }
     match read(order) {
-        Reading::Read(order) => write_read(order, page, first, &mut scratch[..]),
-        Reading::Refused(refusal) => Punched::refused(refusal),
+        Ok(order) => write_read(order, page, first, scratch),
+        Err(refusal) => Punched::refused(refusal),
     }
 }

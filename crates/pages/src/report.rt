@@ -10,7 +10,7 @@ ghost use Rattle.pages.specs.Reports.{wear_text, total_text, cells_text, longest
 use super::rows::put_rows;
 use braille::row::ROW_CELLS;
 use lines::refused::put_refused_order;
-use order::reading::{MOST_ROWS, Order, Reading, read};
+use order::reading::{MOST_ROWS, Order, read};
 use text::decimal::put_decimal;
 use text::put::put;
 
@@ -33,9 +33,9 @@ fn put_total(buffer: &mut [u8], dots: u32) -> usize
     ensures value { result ≡ length (total_text dots) }
     ensures buffer_after { buffer.new ≡ front_of (total_text dots) buffer.old }
 {
-    put(&mut buffer[..], 0, b"dots ");
-    let end = 5 + put_decimal(&mut buffer[..], 5, dots as u64);
-    put(&mut buffer[..], end, b"\n");
+    put(buffer, 0, b"dots ");
+    let end = 5 + put_decimal(buffer, 5, dots as u64);
+    put(buffer, end, b"\n");
     end + 1
 }
 
@@ -48,8 +48,8 @@ pub fn write_wear(order: &[u8], buffer: &mut [u8]) -> usize
         return 0;
     }
     match read(order) {
-        Reading::Read(order) => put_total(&mut buffer[..], all_dots(order)),
-        Reading::Refused(refusal) => put_refused_order(&mut buffer[..], 0, refusal),
+        Ok(order) => put_total(buffer, all_dots(order)),
+        Err(refusal) => put_refused_order(buffer, 0, refusal),
     }
 }
 
@@ -58,7 +58,7 @@ fn put_pages(buffer: &mut [u8], order: Order) -> usize
     ensures value { result ≡ length (all_cells order) }
     ensures buffer_after { buffer.new ≡ front_of (all_cells order) buffer.old }
 {
-    put_rows(&mut buffer[..], order, 0, order.rows);
+    put_rows(buffer, order, 0, order.rows);
     ROW_CELLS * order.rows as usize
 }
 
@@ -71,7 +71,7 @@ pub fn write_pages(order: &[u8], buffer: &mut [u8]) -> usize
         return 0;
     }
     match read(order) {
-        Reading::Read(order) => put_pages(&mut buffer[..], order),
-        Reading::Refused(refusal) => put_refused_order(&mut buffer[..], 0, refusal),
+        Ok(order) => put_pages(buffer, order),
+        Err(refusal) => put_refused_order(buffer, 0, refusal),
     }
 }

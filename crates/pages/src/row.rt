@@ -8,7 +8,7 @@ use super::answer::Punched;
 use super::rows::write_rows;
 use braille::row::ROW_CELLS;
 use days::day::lacks_row;
-use order::reading::{Order, Reading, read};
+use order::reading::{Order, read};
 use refusals::{BUFFER_SHORT, Refusal};
 
 fn write_read(order: Order, row: u32, buffer: &mut [u8]) -> Punched
@@ -17,7 +17,7 @@ fn write_read(order: Order, row: u32, buffer: &mut [u8]) -> Punched
     ensures buffer_after { buffer.new ≡ (put_call_of (one_row row order) buffer.old).buffer }
 {
     if row < order.rows {
-        return write_rows(order, row, 1, &mut buffer[..]);
+        return write_rows(order, row, 1, buffer);
     }
     Punched::refused(lacks_row())
 }
@@ -31,7 +31,7 @@ pub fn write_cells(order: &[u8], row: u32, buffer: &mut [u8]) -> Punched
         return Punched::refused(Refusal::new(BUFFER_SHORT, 0));
     }
     match read(order) {
-        Reading::Read(order) => write_read(order, row, &mut buffer[..]),
-        Reading::Refused(refusal) => Punched::refused(refusal),
+        Ok(order) => write_read(order, row, buffer),
+        Err(refusal) => Punched::refused(refusal),
     }
 }

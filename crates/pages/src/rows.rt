@@ -21,21 +21,17 @@ pub fn put_rows(buffer: &mut [u8], order: Order, row: u32, end: u32) -> u32
     ensures buffer_after { row_length * (end - row) ≤ length buffer.old
         → buffer.new ≡ front_of (cells_of (rows_from order row (end - row))) buffer.old }
 {
-    let first = order.date;
-    let setting = order.setting;
-    let mut suns = RowSuns::new(first.row(row), setting);
-    let mut next = row;
+    let mut suns = RowSuns::new(order.date.row(row), order.setting);
     let mut dots = 0;
-    loop {
-        let worked = suns.since_midnight(setting);
-        let at = ROW_CELLS * (next - row) as usize;
-        dots = dots + put_cells(&mut buffer[..], at, suns.date, worked, order.clock);
-        next = next + 1;
-        if next >= end {
-            return dots;
+    for next in row..end {
+        if next > row {
+            suns = suns.next(order.setting);
         }
-        suns = suns.next(setting);
+        let worked = suns.since_midnight(order.setting);
+        let at = ROW_CELLS * (next - row) as usize;
+        dots += put_cells(buffer, at, suns.date, worked, order.clock);
     }
+    dots
 }
 
 // Writes `count` rows from `row` on. Returns `count` and their dots.
@@ -44,10 +40,10 @@ pub fn write_rows(order: Order, row: u32, count: u32, buffer: &mut [u8]) -> Punc
     ensures value { result ≡ punched_of (rows_from order row count) }
     ensures buffer_after { buffer.new ≡ front_of (cells_of (rows_from order row count)) buffer.old }
 {
-    let dots = put_rows(&mut buffer[..], order, row, row + count);
+    let dots = put_rows(buffer, order, row, row + count);
     Punched {
         refusal: Refusal::none(),
         rows: count,
-        dots: dots,
+        dots,
     }
 }

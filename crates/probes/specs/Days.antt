@@ -1,5 +1,8 @@
 -- A day's numbers, settings and results as the exports take and return them.
-use Rattle.std.specs.Prelude.{true, false, Float}
+use Rattle.schedule.specs.declared.in_force.HoursMinutes.{HoursMinutes}
+use Rattle.schedule.specs.declared.prayer_times.PrayerTimes.{PrayerTimes}
+use Rattle.refusals.specs.declared.Refusal.{Refusal}
+use Rattle.std.specs.Prelude.{true, false, Float, Err, None, Ok, Option, Result, Some}
 use Rattle.models.specs.Chosen.{setting_of}
 use Rattle.models.specs.Numbers.{method_of, madhab_of, rule_of, rounding_of, shafaq_of, midnight_of, southern_of}
 use Rattle.models.specs.Presets.{preset_of}
@@ -9,10 +12,6 @@ use Rattle.models.specs.declared.setting.Setting.{Setting}
 use Rattle.refusals.specs.Refusals.{no_refusal}
 use Rattle.unit.specs.Unit.{coordinates_of}
 use Rattle.schedule.specs.Times.{no_times}
-use Rattle.schedule.specs.declared.prayer_times.Worked.{Worked}
-use Rattle.schedule.specs.declared.prayer_times.Worked.TheVariants.{Times, Refused}
-use Rattle.schedule.specs.declared.in_force.Remaining.{Remaining}
-use Rattle.schedule.specs.declared.in_force.Remaining.TheVariants.{Some, Nothing}
 use Rattle.probes.specs.declared.worked.ProbeSettings.{ProbeSettings}
 use Rattle.probes.specs.declared.worked.ProbeRules.{ProbeRules}
 use Rattle.probes.specs.declared.worked.ProbeDay.{ProbeDay}
@@ -42,10 +41,10 @@ rules_from r = record { midnight = midnight_of r.carry; southern = southern_of r
 abbrev pub setting_from : Float → Float → ProbeSettings → ProbeRules → Setting
 setting_from latitude longitude settings chosen = setting_of (coordinates_of latitude longitude) (parameters_from settings) (rules_from chosen)
 
-unfoldable pub probe_day_of : Worked → ProbeDay
-probe_day_of (Times t) = record { refusal = no_refusal; times = t }
-probe_day_of (Refused r) = record { refusal = r; times = no_times }
+unfoldable pub probe_day_of : Result PrayerTimes Refusal → ProbeDay
+probe_day_of (Ok t) = record { refusal = no_refusal; times = t }
+probe_day_of (Err r) = record { refusal = r; times = no_times }
 
-unfoldable pub probe_remaining_of : Remaining → ProbeRemaining
+unfoldable pub probe_remaining_of : Option HoursMinutes → ProbeRemaining
 probe_remaining_of (Some t) = record { found = true; hours = t.hours; minutes = t.minutes }
-probe_remaining_of Nothing = record { found = false; hours = 0; minutes = 0 }
+probe_remaining_of None = record { found = false; hours = 0; minutes = 0 }

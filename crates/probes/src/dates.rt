@@ -12,6 +12,7 @@ use calendar::dates::{Date, weekday};
 use hijri::dates::Tabular;
 use hijri::ramadan::{first_of_ramadan, is_ramadan_start};
 use julian::day::date_julian_day;
+use models::numbered::Numbered;
 use models::rounding::Rounding;
 use whole_minutes::times::rounded_minute;
 

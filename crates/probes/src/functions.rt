@@ -18,6 +18,7 @@ ghost use Rattle.solar.specs.Times.{solar_hour_of};
 ghost use Rattle.probes.specs.Functions.{probe_sun_of, probe_time_of};
 
 use calendar::dates::Date;
+use models::numbered::Numbered;
 use models::rules::Midnight;
 use models::shafaq::Shafaq;
 use ops::season::{
@@ -25,7 +26,6 @@ use ops::season::{
 };
 use ops::transit::Course;
 use solar::hours::{HourNumbers, afternoon_number, angle_number, date_course, hour_numbers};
-use solar::setting::SolarHour;
 use solar::times::solar_hour;
 use unit::{Angle, Coordinates};
 
@@ -204,15 +204,15 @@ pub struct ProbeTime {
     pub seconds: i32,
 }
 
-fn time(hour: SolarHour) -> ProbeTime
+fn time(hour: Option<i32>) -> ProbeTime
     ensures { result ≡ probe_time_of hour }
 {
     match hour {
-        SolarHour::Some(seconds) => ProbeTime {
+        Some(seconds) => ProbeTime {
             found: true,
-            seconds: seconds,
+            seconds,
         },
-        SolarHour::Nothing => ProbeTime {
+        None => ProbeTime {
             found: false,
             seconds: 0,
         },

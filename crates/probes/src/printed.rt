@@ -14,7 +14,7 @@ pub extern "C" fn probe_sheet(order: &[u8], buffer: &mut [u8]) -> usize
     ensures value { result ≡ (sheet_call_of order.now buffer.old).answer }
     ensures buffer_after { buffer.new ≡ (sheet_call_of order.now buffer.old).buffer }
 {
-    write_sheet(order, &mut buffer[..])
+    write_sheet(order, buffer)
 }
 
 #[unsafe(no_mangle)]
@@ -22,7 +22,7 @@ pub extern "C" fn probe_wear(order: &[u8], buffer: &mut [u8]) -> usize
     ensures value { result ≡ (printed_of longest_wear (wear_text order.now) buffer.old).answer }
     ensures buffer_after { buffer.new ≡ (printed_of longest_wear (wear_text order.now) buffer.old).buffer }
 {
-    write_wear(order, &mut buffer[..])
+    write_wear(order, buffer)
 }
 
 #[unsafe(no_mangle)]
@@ -30,5 +30,5 @@ pub extern "C" fn probe_week(order: &[u8], buffer: &mut [u8]) -> usize
     ensures value { result ≡ (printed_of longest_week (week_text order.now) buffer.old).answer }
     ensures buffer_after { buffer.new ≡ (printed_of longest_week (week_text order.now) buffer.old).buffer }
 {
-    write_week(order, &mut buffer[..])
+    write_week(order, buffer)
 }

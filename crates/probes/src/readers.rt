@@ -4,9 +4,10 @@ ghost use Rattle.order.specs.Reading.{reading_of};
 ghost use Rattle.probes.specs.Readers.{answer_of};
 
 use models::adjustments::TimeAdjustment;
-use order::reading::Reading;
+use order::reading::Order;
 use order::{plain, reading};
 use order_numbers::numbers::{OrderNumbers, numbers_of};
+use refusals::Refusal;
 
 // What a host gets, and what the method brings to the record: 0 if the order is refused.
 #[repr(C)]
@@ -17,22 +18,21 @@ pub struct ProbeOrder {
     pub method_minutes: TimeAdjustment,
 }
 
-fn answer(reading: Reading) -> ProbeOrder
+fn answer(reading: Result<Order, Refusal>) -> ProbeOrder
     ensures { result ≡ answer_of reading }
 {
     let numbers = numbers_of(reading);
     match reading {
-        Reading::Read(order) => {
+        Ok(order) => {
             let parameters = order.setting.parameters;
-            let method_minutes = parameters.method_adjustments;
             ProbeOrder {
-                numbers: numbers,
+                numbers,
                 maghrib_angle: parameters.maghrib_angle,
-                method_minutes: method_minutes,
+                method_minutes: parameters.method_adjustments,
             }
         }
-        Reading::Refused(_) => ProbeOrder {
-            numbers: numbers,
+        Err(_) => ProbeOrder {
+            numbers,
             maghrib_angle: 0.0,
             method_minutes: TimeAdjustment::NONE,
         },

@@ -12,15 +12,17 @@ use models::adjustments::TimeAdjustment;
 use models::high_altitude_rule::HighLatitudeRule;
 use models::madhab::Madhab;
 use models::method::Method;
+use models::numbered::Numbered;
 use models::parameters::Parameters;
+use models::prayer::Prayer;
 use models::rounding::Rounding;
 use models::rules::{Midnight, Rules, Southern};
 use models::setting::Setting;
 use models::shafaq::Shafaq;
 use refusals::Refusal;
 use schedule::hours::RowNumbers;
-use schedule::in_force::{Current, Instant, Remaining};
-use schedule::prayer_times::{PrayerTimes, Worked};
+use schedule::in_force::{HoursMinutes, Instant};
+use schedule::prayer_times::PrayerTimes;
 use schedule::rolling::RowSuns;
 use unit::Coordinates;
 
@@ -58,22 +60,16 @@ pub struct ProbeDay {
 fn parameters(s: ProbeSettings) -> Parameters
     ensures { result ≡ parameters_from s }
 {
-    let preset = Method::of_number(s.method).parameters();
-    let method = preset.method;
-    let method_adjustments = preset.method_adjustments;
-    let minutes = s.minutes;
     Parameters {
-        method: method,
         fajr_angle: s.fajr_angle,
-        maghrib_angle: preset.maghrib_angle,
         isha_angle: s.isha_angle,
         isha_interval: s.isha_interval,
         madhab: Madhab::of_number(s.madhab),
         high_latitude_rule: HighLatitudeRule::of_number(s.high_latitude_rule),
-        adjustments: minutes,
-        method_adjustments: method_adjustments,
+        adjustments: s.minutes,
         rounding: Rounding::of_number(s.rounding),
         shafaq: Shafaq::of_number(s.shafaq),
+        ..Method::of_number(s.method).parameters()
     }
 }
 
@@ -96,16 +92,16 @@ fn setting(latitude: f64, longitude: f64, settings: ProbeSettings, chosen: Probe
     }
 }
 
-fn answered(worked: Worked) -> ProbeDay
+fn answered(worked: Result<PrayerTimes, Refusal>) -> ProbeDay
     ensures { result ≡ probe_day_of worked }
 {
     match worked {
-        Worked::Times(times) => ProbeDay {
+        Ok(times) => ProbeDay {
             refusal: Refusal::none(),
-            times: times,
+            times,
         },
-        Worked::Refused(refusal) => ProbeDay {
-            refusal: refusal,
+        Err(refusal) => ProbeDay {
+            refusal,
             times: PrayerTimes::NONE,
         },
     }
@@ -149,21 +145,12 @@ pub extern "C" fn probe_row(
     answered(RowSuns::new(date, setting).work(setting))
 }
 
-fn instant(seconds: i64, nanoseconds: u32) -> Instant
-    ensures { result ≡ instant_of seconds nanoseconds }
-{
-    Instant {
-        seconds: seconds,
-        nanoseconds: nanoseconds,
-    }
-}
-
-fn number(current: Current) -> u32
+fn number(current: Option<Prayer>) -> u32
     ensures { result ≡ current_number_of current }
 {
     match current {
-        Current::Some(prayer) => prayer.number(),
-        Current::Nothing => 0,
+        Some(prayer) => prayer.number(),
+        None => 0,
     }
 }
 
@@ -172,7 +159,10 @@ fn number(current: Current) -> u32
 pub extern "C" fn probe_current(times: PrayerTimes, seconds: i64, nanoseconds: u32) -> u32
     ensures { result ≡ current_number_of (current_time_of times (instant_of seconds nanoseconds)) }
 {
-    number(times.current_time(instant(seconds, nanoseconds)))
+    number(times.current_time(Instant {
+        seconds,
+        nanoseconds,
+    }))
 }
 
 // The number of the next prayer, or 0 if none is in force.
@@ -180,7 +170,10 @@ pub extern "C" fn probe_current(times: PrayerTimes, seconds: i64, nanoseconds: u
 pub extern "C" fn probe_next(times: PrayerTimes, seconds: i64, nanoseconds: u32) -> u32
     ensures { result ≡ current_number_of (next_of times (instant_of seconds nanoseconds)) }
 {
-    number(times.next(instant(seconds, nanoseconds)))
+    number(times.next(Instant {
+        seconds,
+        nanoseconds,
+    }))
 }
 
 // The time until the next prayer. If none is in force, `found` is false and the numbers are 0.
@@ -192,16 +185,16 @@ pub struct ProbeRemaining {
     pub minutes: u32,
 }
 
-fn hours_minutes(remaining: Remaining) -> ProbeRemaining
+fn hours_minutes(remaining: Option<HoursMinutes>) -> ProbeRemaining
     ensures { result ≡ probe_remaining_of remaining }
 {
     match remaining {
-        Remaining::Some(time) => ProbeRemaining {
+        Some(time) => ProbeRemaining {
             found: true,
             hours: time.hours,
             minutes: time.minutes,
         },
-        Remaining::Nothing => ProbeRemaining {
+        None => ProbeRemaining {
             found: false,
             hours: 0,
             minutes: 0,
@@ -217,5 +210,8 @@ pub extern "C" fn probe_remaining(
 ) -> ProbeRemaining
     ensures { result ≡ probe_remaining_of (time_remaining_of times (instant_of seconds nanoseconds)) }
 {
-    hours_minutes(times.time_remaining(instant(seconds, nanoseconds)))
+    hours_minutes(times.time_remaining(Instant {
+        seconds,
+        nanoseconds,
+    }))
 }

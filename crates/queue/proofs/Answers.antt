@@ -1,70 +1,74 @@
 -- What the code returns is the definition's value, in each case that its tests find. Assumes nothing.
-use Rattle.prelude.proofs.Logic.{◌≡◌, refl, sym, ◌∙◌, true, false, List, ◌∷◌, ℕ, ◌-◌, ◌≤◌, ◌<◌, arith, length, get_or, slice, lt-ltb, le-ltb}
+use Rattle.prelude.proofs.Logic.{◌≡◌, refl, sym, ◌∙◌, true, false, List, ◌∷◌, ℕ, ◌-◌, ◌≤◌, ◌<◌, arith, length, get_or, lt-ltb, le-ltb}
 use Rattle.queue.specs.declared.{Queue.Queue, Joined.Joined, Turned.Turned}
-use Rattle.queue.specs.Jobs.{Job, job, QueueStep, most_jobs, proper, admits, join_of, turn_of}
+use Rattle.queue.specs.Jobs.{Job, job, Event, admitted, refused, sent, nothing, QueueStep, most_jobs, waits, proper, admits, join_of, turn_of}
 use Rattle.queue.specs.Arrays.{counted, jobs_in, jobs_of, queue_of, refusal_in, held_after, joined_of, turned_of}
-use Rattle.prelude.specs.Lists.{listed}
-use Rattle.queue.specs.Parts.{with_last}
+use Rattle.std.proofs.Common.{Ok, Err}
+use Rattle.queue.specs.Parts.{with_last, verdict_in}
+use Rattle.refusals.specs.declared.Refusal.{Refusal}
 use Rattle.refusals.specs.Refusals.{refusal, no_refusal, queue_full, job_unfit}
 use Rattle.queue.proofs.Steps.{join_cases}
-use Rattle.queue.proofs.Abstraction.{Whole, counted_most, jobs-length, jobs-waits, jobs-first, last_jobs}
+use Rattle.queue.proofs.Abstraction.{Whole, counted_most, jobs-length, jobs-first, last_jobs}
 
 -- ---- joins to a list of jobs
-admitted_when : (l : List Job) (id pages : ℕ) → (refusal_in (join_of l id pages).event).number ≡ 0
+admitted_when : (l : List Job) (id pages : ℕ) → Ok tt ≡ verdict_in (join_of l id pages).event
     → (length l < most_jobs) × (join_of l id pages ≡ admits l id pages)
 admitted_when l id pages =
-    join_cases (λ (s : QueueStep). (refusal_in s.event).number ≡ 0 → (length l < most_jobs) × (s ≡ admits l id pages)) l id pages
-    (λ n o h. absurd (omega arith)) (λ r v k h. (k, refl))
+    join_cases (λ (s : QueueStep). Ok tt ≡ verdict_in s.event → (length l < most_jobs) × (s ≡ admits l id pages)) l id pages
+    (λ n o h. cc) (λ r v k h. (k, refl))
 
-kept_when : (q : Queue) (l : List Job) (id pages : ℕ) → ((refusal_in (join_of l id pages).event).number ≡ 0 → ⊥)
-    → held_after q (join_of l id pages).event (join_of l id pages).queue ≡ q
-kept_when q l id pages =
-    join_cases (λ (s : QueueStep). ((refusal_in s.event).number ≡ 0 → ⊥) → held_after q s.event s.queue ≡ q) l id pages
-    (λ n o h. refl) (λ r v k h. absurd (h refl))
+kept_when : (q : Queue) (e : Event) (l : List Job) (r : Refusal) → Err r ≡ verdict_in e
+    → ◌≡◌ {A = Joined} (record { refusal = r; queue = q }) (record { refusal = refusal_in e; queue = held_after q e l })
+kept_when q (admitted j) l r h = cc
+kept_when q (refused x) l r h = let e : r ≡ x = cc in rw e
+kept_when q (sent j) l r h = cc
+kept_when q nothing l r h = cc
 
-pub join_refused : (q : Queue) (id pages : ℕ) → ((refusal_in (join_of (jobs_of q) id pages).event).number ≡ 0 → ⊥)
-    → ◌≡◌ {A = Joined} (record { refusal = refusal_in (join_of (jobs_of q) id pages).event; queue = q }) (joined_of q id pages)
+pub join_refused : (q : Queue) (id pages : ℕ) (r : Refusal) → Err r ≡ verdict_in (join_of (jobs_of q) id pages).event
+    → ◌≡◌ {A = Joined} (record { refusal = r; queue = q }) (joined_of q id pages)
 unfolding joined_of
-join_refused q id pages h = rw (kept_when q (jobs_of q) id pages h)
+join_refused q id pages r h = kept_when q (join_of (jobs_of q) id pages).event (join_of (jobs_of q) id pages).queue r h
 
-pub join_admitted : (q : Queue) (n : ℕ) → n ≡ counted q.jobs → (id pages : ℕ) → (refusal_in (join_of (jobs_of q) id pages).event).number ≡ 0
-    → ◌≡◌ {A = Joined}
-    (record { refusal = refusal_in (join_of (jobs_of q) id pages).event; queue = with_last (queue_of (jobs_in q 0 n)) id pages })
-    (joined_of q id pages)
+pub join_admitted : (q : Queue) (n : ℕ) → n ≡ counted q.jobs → (id pages : ℕ) → Ok tt ≡ verdict_in (join_of (jobs_of q) id pages).event
+    → ◌≡◌ {A = Joined} (record { refusal = no_refusal; queue = with_last (queue_of (jobs_in q 0 n)) id pages }) (joined_of q id pages)
 unfolding joined_of
 join_admitted q n e id pages free =
     let a = admitted_when (jobs_of q) id pages free in
     rw (e, last_jobs (jobs_of q) id pages a.0, a.1)
 
--- the refusal by what the tests find, if n jobs count
-pub record Judged (q : Queue) (n id pages : ℕ) : Type 0 where
-  pub waiting : listed (slice 0 n q.ids) id ≡ true → refusal job_unfit id ≡ refusal_in (join_of (jobs_of q) id pages).event
-  pub full : listed (slice 0 n q.ids) id ≡ false → 16 ≤ n → refusal queue_full id ≡ refusal_in (join_of (jobs_of q) id pages).event
-  pub free : listed (slice 0 n q.ids) id ≡ false → n < 16 → no_refusal ≡ refusal_in (join_of (jobs_of q) id pages).event
+-- ---- whether a job may join, by what the tests find
+module _ (q : Queue) (w : Whole q) (id pages : ℕ) (p : proper id pages ≡ true) (a : waits id (jobs_of q) ≡ false) where
+  jobs-counted : length (jobs_of q) ≡ counted q.jobs
+  jobs-counted = jobs-length q w 0 (counted q.jobs) (counted_most q.jobs) ∙ omega arith
+
+  pub free : counted q.jobs < 16 → Ok tt ≡ verdict_in (join_of (jobs_of q) id pages).event
+  unfolding join_of
+  free h = rw (p, a, jobs-counted, lt-ltb _ _ h)
+
+  pub full : 16 ≤ counted q.jobs → Err (refusal queue_full id) ≡ verdict_in (join_of (jobs_of q) id pages).event
+  unfolding join_of
+  full h = rw (p, a, jobs-counted, le-ltb _ _ h)
+
+module _ (q : Queue) (id pages : ℕ) where
+  pub unfit : proper id pages ≡ false → Err (refusal job_unfit id) ≡ verdict_in (join_of (jobs_of q) id pages).event
+  unfolding join_of
+  unfit p = rw p
+
+  pub waiting : proper id pages ≡ true → waits id (jobs_of q) ≡ true
+      → Err (refusal job_unfit id) ≡ verdict_in (join_of (jobs_of q) id pages).event
+  unfolding join_of
+  waiting p a = rw (p, a)
+
+-- if a job is not refused, the queue has room for it
+pub room : (q : Queue) → Whole q → (id pages : ℕ) → Ok tt ≡ verdict_in (join_of (jobs_of q) id pages).event → counted q.jobs < 16
+room q w id pages free =
+    let k = (admitted_when (jobs_of q) id pages free).0 in
+    omega (arith, jobs-length q w 0 (counted q.jobs) (counted_most q.jobs))
 
 -- ---- n is how many jobs count
 module _ (q : Queue) (w : Whole q) (n : ℕ) (e : n ≡ counted q.jobs) where
   small : n ≤ 16
   small = rw e (counted_most q.jobs)
-
-  jobs-count : length (jobs_in q 0 n) ≡ n
-  jobs-count = jobs-length q w 0 n small ∙ omega arith
-
-  -- ---- the refusal of an id and pages in range
-  pub judged : (id pages : ℕ) → proper id pages ≡ true → Judged q n id pages
-  unfolding join_of
-  judged id pages p =
-      record {
-        waiting = λ a. rw (sym e, p, jobs-waits q w 0 n small id, a);
-        full = λ a h. rw (sym e, p, jobs-waits q w 0 n small id, a, jobs-count, le-ltb _ _ h);
-        free = λ a h. rw (sym e, p, jobs-waits q w 0 n small id, a, jobs-count, lt-ltb _ _ h);
-      }
-
-  -- if a job is not refused, the queue has room for it
-  pub room : (id pages : ℕ) → (refusal_in (join_of (jobs_of q) id pages).event).number ≡ 0 → n < 16
-  room id pages free =
-      let k : length (jobs_in q 0 n) < 16 = rw e (admitted_when (jobs_of q) id pages free).0 in
-      omega (arith, jobs-count)
 
   -- ---- turn
   pub turn-empty : n ≡ 0 → ◌≡◌ {A = Turned} (record { id = 0; pages = 0; queue = q }) (turned_of q)

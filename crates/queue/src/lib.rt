@@ -3,10 +3,9 @@
 
 ghost use Rattle.std.specs.Prelude.{◌≡◌, ◌-◌, ◌≤◌, ◌<◌};
 ghost use Rattle.std.proofs.Math.Seq.{slice};
-ghost use Rattle.prelude.specs.Lists.{listed};
-ghost use Rattle.queue.specs.Jobs.{most_jobs, proper, join_of};
-ghost use Rattle.queue.specs.Arrays.{counted, jobs_in, jobs_of, padded, queue_of, refusal_in, joined_of, turned_of};
-ghost use Rattle.queue.specs.Parts.{with_last};
+ghost use Rattle.queue.specs.Jobs.{most_jobs, waits, proper, join_of};
+ghost use Rattle.queue.specs.Arrays.{counted, jobs_in, jobs_of, padded, queue_of, joined_of, turned_of};
+ghost use Rattle.queue.specs.Parts.{with_last, verdict_in};
 
 use refusals::{JOB_UNFIT, QUEUE_FULL, Refusal};
 
@@ -16,7 +15,8 @@ const MOST_ID: u32 = 65535;
 
 const MOST_PAGES: u32 = 16;
 
-// How many jobs wait, and each one's id and pages left, with the front job first. The rest of the arrays is 0.
+// How many jobs wait, and each one's id and pages left, with the front job first. The rest of the arrays is 0. C has the two arrays and the
+// count, so they stay apart.
 #[repr(C)]
 #[derive(Clone, Copy)]
 pub struct Queue {
@@ -45,54 +45,40 @@ pub struct Turned {
 fn count(jobs: u32) -> usize
     ensures { (result ≡ counted jobs) × (result ≤ most_jobs) }
 {
-    let n = jobs as usize;
-    if n < MOST_JOBS { n } else { MOST_JOBS }
+    (jobs as usize).min(MOST_JOBS)
 }
 
 fn in_range(id: u32, pages: u32) -> bool
     ensures { result ≡ proper id pages }
 {
-    (1 <= id) & (id <= MOST_ID) & (1 <= pages) & (pages <= MOST_PAGES)
+    (1..=MOST_ID).contains(&id) && (1..=MOST_PAGES).contains(&pages)
 }
 
-fn is_listed(ids: [u32; MOST_JOBS], n: usize, id: u32) -> bool
-    requires { n ≤ most_jobs }
-    ensures { result ≡ listed (slice 0 n ids) id }
+fn waits(queue: &Queue, id: u32) -> bool
+    ensures { result ≡ waits id (jobs_of queue.now) }
 {
-    let mut i: usize = 0;
-    while i < n {
-        if ids[i] == id {
-            return true;
-        }
-        i += 1;
-    }
-    false
+    let n = count(queue.jobs);
+    queue.ids[..n].contains(&id)
 }
 
 // The numbers from place `from` to before `to`, moved to the front. The rest is 0.
-fn part(a: [u32; MOST_JOBS], from: usize, to: usize) -> [u32; MOST_JOBS]
+fn part(a: &[u32; MOST_JOBS], from: usize, to: usize) -> [u32; MOST_JOBS]
     requires { (from ≤ to) × (to ≤ most_jobs) }
-    ensures { result ≡ padded (slice from to a) }
+    ensures { result ≡ padded (slice from to a.now) }
 {
-    let mut out: [u32; MOST_JOBS] = [0; MOST_JOBS];
-    let mut i: usize = from;
-    while i < to {
-        out[i - from] = a[i];
-        i += 1;
-    }
+    let mut out = [0; MOST_JOBS];
+    out[..to - from].copy_from_slice(&a[from..to]);
     out
 }
 
-fn lined(queue: Queue, from: usize, to: usize) -> Queue
+fn lined(queue: &Queue, from: usize, to: usize) -> Queue
     requires { (from ≤ to) × (to ≤ most_jobs) }
-    ensures { (result ≡ queue_of (jobs_in queue from to)) × (result.jobs ≡ to - from) }
+    ensures { (result ≡ queue_of (jobs_in queue.now from to)) × (result.jobs ≡ to - from) }
 {
-    let ids = queue.ids;
-    let pages = queue.pages;
     Queue {
         jobs: (to - from) as u32,
-        ids: part(ids, from, to),
-        pages: part(pages, from, to),
+        ids: part(&queue.ids, from, to),
+        pages: part(&queue.pages, from, to),
     }
 }
 
@@ -104,44 +90,38 @@ fn with_last(queue: Queue, id: u32, pages: u32) -> Queue
     let n = q.jobs as usize;
     q.ids[n] = id;
     q.pages[n] = pages;
-    q.jobs = q.jobs + 1;
+    q.jobs += 1;
     q
 }
 
-// The refusal of a job that would join, or none. 17 is tried before 16.
-fn judge(queue: Queue, id: u32, pages: u32) -> Refusal
-    ensures { result ≡ refusal_in (join_of (jobs_of queue) id pages).event }
+// Whether a job may join. 17 is tried before 16.
+fn judge(queue: &Queue, id: u32, pages: u32) -> Result<(), Refusal>
+    ensures { result ≡ verdict_in (join_of (jobs_of queue.now) id pages).event }
 {
-    let n = count(queue.jobs);
-    let ids = queue.ids;
-    if in_range(id, pages) {
-        if is_listed(ids, n, id) {
-            return Refusal::new(JOB_UNFIT, id);
-        }
-        if n < MOST_JOBS {
-            return Refusal::none();
-        }
-        return Refusal::new(QUEUE_FULL, id);
+    if !in_range(id, pages) {
+        return Err(Refusal::new(JOB_UNFIT, id));
     }
-    Refusal::new(JOB_UNFIT, id)
+    if waits(queue, id) {
+        return Err(Refusal::new(JOB_UNFIT, id));
+    }
+    if count(queue.jobs) < MOST_JOBS {
+        return Ok(());
+    }
+    Err(Refusal::new(QUEUE_FULL, id))
 }
 
 // A refused job leaves every number of the queue as it was.
 pub fn join(queue: Queue, id: u32, pages: u32) -> Joined
     ensures { result ≡ joined_of queue id pages }
 {
-    let refusal = judge(queue, id, pages);
-    if refusal.number == 0 {
-        let n = count(queue.jobs);
-        let q = with_last(lined(queue, 0, n), id, pages);
-        return Joined {
-            refusal: refusal,
-            queue: q,
-        };
+    if let Err(refusal) = judge(&queue, id, pages) {
+        return Joined { refusal, queue };
     }
+    let n = count(queue.jobs);
+    let q = with_last(lined(&queue, 0, n), id, pages);
     Joined {
-        refusal: refusal,
-        queue: queue,
+        refusal: Refusal::none(),
+        queue: q,
     }
 }
 
@@ -154,23 +134,23 @@ pub fn turn(queue: Queue) -> Turned
         return Turned {
             id: 0,
             pages: 0,
-            queue: queue,
+            queue,
         };
     }
     let id = queue.ids[0];
-    let pages = queue.pages[0];
-    let rest = lined(queue, 1, n);
-    if pages <= 1 {
+    let pages = queue.pages[0].saturating_sub(1);
+    let rest = lined(&queue, 1, n);
+    if pages == 0 {
         return Turned {
-            id: id,
-            pages: 0,
+            id,
+            pages,
             queue: rest,
         };
     }
-    let q = with_last(rest, id, pages - 1);
+    let q = with_last(rest, id, pages);
     Turned {
-        id: id,
-        pages: pages - 1,
+        id,
+        pages,
         queue: q,
     }
 }

@@ -1,6 +1,6 @@
 -- Document 01's table of refusals, and the numbers that document 02 adds. A refusal is a number and a place. The numbers have the code's
 -- names; each has the paper's words for its condition, and after the semicolon its place.
-use Rattle.std.specs.Prelude.{ℕ, cond, List, [], ◌∷◌, eqb}
+use Rattle.std.specs.Prelude.{ℕ, cond, List, [], ◌∷◌, eqb, Err, Ok, Result}
 use Rattle.refusals.specs.declared.Refusal.{Refusal}
 
 abbrev pub refusal : ℕ → ℕ → Refusal
@@ -13,6 +13,10 @@ no_refusal = refusal 0 0
 -- the first if it refuses something, else the second
 unfoldable pub or_of : Refusal → Refusal → Refusal
 or_of first second = cond (eqb first.number 0) second first
+
+-- the value if nothing is refused, else the refusal
+unfoldable pub unless_refused : {A : Type 0} → Refusal → A → Result A Refusal
+unless_refused r value = cond (eqb r.number 0) (Ok value) (Err r)
 
 -- "over 1,024 bytes, or a field cut"; "its offset, or 0"
 abbrev pub field_cut : ℕ

@@ -68,10 +68,7 @@ impl Refusal {
     pub fn new(number: u32, place: u32) -> Refusal
         ensures { result ≡ refusal number place }
     {
-        Refusal {
-            number: number,
-            place: place,
-        }
+        Refusal { number, place }
     }
 
     // Nothing is refused.
@@ -83,6 +80,7 @@ impl Refusal {
             place: 0,
         }
     }
+
     // This refusal, or the other if this one refuses nothing.
     pub fn or(self, other: Refusal) -> Refusal
         ensures { result ≡ or_of self other }

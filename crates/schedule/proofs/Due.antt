@@ -1,21 +1,16 @@
--- Whole seconds ahead of an instant, and one step of the search for the prayer in force. Assumes nothing.
-use Rattle.prelude.proofs.Logic.{◌≡◌, refl, sym, ap, ◌∙◌, Bool, cond, ℕ, zero, suc, ◌+◌, ◌-◌, ◌*◌, ◌/◌, ◌≤◌, ◌<◌, arith, eqb, ℤ, pos}
-use Rattle.prelude.proofs.Logic.{negsuc, ◌+ℤ◌, ◌-ℤ◌, ◌*ℤ◌, eq-eqb, ne_eqb, w64, SFits, Fits}
-use Rattle.integers.proofs.Integers.{P, N, sum, difference, times, range}
-use Rattle.models.specs.Numbers.{prayer_of}
-use Rattle.schedule.specs.InForce.{in_second, nanoseconds_of, ahead_of, time_of, last_of}
-use Rattle.schedule.specs.declared.{in_force.Instant.Instant, prayer_times.PrayerTimes.PrayerTimes}
-use Rattle.schedule.specs.declared.in_force.Current.TheVariants.{Some, Nothing}
-
-pub sum_fits : (x y : ℤ) (a b : ℕ) → SFits w64 x → SFits w64 y → a ≡ P x → b ≡ N y → Fits w64 (a + b)
-sum_fits x y a b h k p q = let r = range w64 x h in let s = range w64 y k in record { fits = omega arith }
+-- Whole seconds ahead of an instant. Assumes nothing.
+use Rattle.prelude.proofs.Logic.{◌≡◌, sym, ap, ◌∙◌, ℕ, ◌+◌, ◌-◌, ◌*◌, ◌/◌, arith, ℤ, pos}
+use Rattle.prelude.proofs.Logic.{negsuc, ◌+ℤ◌, ◌-ℤ◌, ◌*ℤ◌}
+use Rattle.integers.proofs.Integers.{P, N, sum, difference, times}
+use Rattle.schedule.specs.InForce.{in_second, nanoseconds_of, ahead_of}
+use Rattle.schedule.specs.declared.{in_force.Instant.Instant}
 
 -- the positive part of a balance
 positive_part : (z : ℤ) (a b : ℕ) → P z + b ≡ N z + a → P z ≡ a - b
 positive_part (pos n) a b h = omega arith
 positive_part (negsuc n) a b h = omega arith
 
-pub between_is : (t s : ℤ) → P (t -ℤ s) ≡ (P t + N s) - (P s + N t)
+between_is : (t s : ℤ) → P (t -ℤ s) ≡ (P t + N s) - (P s + N t)
 between_is t s = let d = difference t s in positive_part (t -ℤ s) (P t + N s) (P s + N t) (omega (arith, d.0, d.1))
 
 whole_seconds : (a b n : ℕ) → ((a * 1000000000) - (b * 1000000000 + n)) / 1000000000 ≡ (a - b) - (n + 999999999) / 1000000000
@@ -35,26 +30,3 @@ ahead_is t i =
     let p = positive_part (t *ℤ pos in_second -ℤ (s *ℤ pos in_second +ℤ pos n)) (a * 1000000000) (b * 1000000000 + n)
     (omega (arith, d.0, d.1)) in
     ap (λ (z : ℕ). z / 1000000000) p ∙ whole_seconds a b n ∙ ap (λ (z : ℕ). z - (n + 999999999) / 1000000000) (sym (between_is t s))
-
--- ---- one step of the search
-found_at : (t : PrayerTimes) (i : Instant) (n : ℕ) → 0 < n
-    → last_of t i n ≡ cond (eqb (ahead_of (time_of t (prayer_of n)) i) 0) (Some (prayer_of n)) (last_of t i (n - 1))
-unfolding last_of
-found_at t i zero h = absurd (omega arith)
-found_at t i (suc n) h =
-    let e : n ≡ suc n - 1 = omega arith in
-    ap (λ (m : ℕ). cond (eqb (ahead_of (time_of t (prayer_of (suc n))) i) 0) (Some (prayer_of (suc n))) (last_of t i m)) e
-
-pub found : (t : PrayerTimes) (i : Instant) (n : ℕ) → 0 < n → ahead_of (time_of t (prayer_of n)) i ≡ 0 → last_of t i n ≡ Some (prayer_of n)
-found t i n h e = found_at t i n h
-    ∙ ap (λ (b : Bool). cond b (Some (prayer_of n)) (last_of t i (n - 1))) (eq-eqb (ahead_of (time_of t (prayer_of n)) i) 0 e)
-
-pub passed : (t : PrayerTimes) (i : Instant) (n : ℕ) → 0 < n → (ahead_of (time_of t (prayer_of n)) i ≡ 0 → ⊥)
-    → last_of t i n ≡ last_of t i (n - 1)
-passed t i n h e = found_at t i n h
-    ∙ ap (λ (b : Bool). cond b (Some (prayer_of n)) (last_of t i (n - 1))) (ne_eqb (ahead_of (time_of t (prayer_of n)) i) 0 e)
-
-pub exhausted : (t : PrayerTimes) (i : Instant) (n : ℕ) → n ≤ 0 → last_of t i n ≡ Nothing
-unfolding last_of
-exhausted t i zero h = refl
-exhausted t i (suc n) h = absurd (omega arith)

@@ -1,6 +1,7 @@
 -- What the private functions promise, as their callers read it, and the night's portions as they are worked. Assumes nothing.
-use Rattle.prelude.proofs.Logic.{◌≡◌, refl, ap, subst, ◌∙◌, ℕ, ◌+◌, ◌^◌, ◌≤◌, lit≤, ℤ, ◌+ℤ◌, w64}
-use Rattle.integers.proofs.Integers.{Near, wider, inside_between, read_back, Held, held_sum, stored}
+use Rattle.prelude.proofs.Logic.{◌≡◌, refl, ap, subst, ◌∙◌, ℕ, ◌+◌, ◌^◌, ◌≤◌, lit≤, ℤ, ◌+ℤ◌}
+use Rattle.prelude.proofs.Logic.{w32, w64, SFits}
+use Rattle.integers.proofs.Integers.{Near, wider, inside_between, read_back, read, Held, of_wide, held_sum, stored}
 use Rattle.night_portions.specs.Portions.{seventh_of, middle_of, last_third_of}
 use Rattle.night_portions.proofs.Steady.{longest}
 use Rattle.night_portions.proofs.PortionsLaws.{seventh_inside, middle_inside, last_third_inside}
@@ -11,6 +12,10 @@ both f {x} {y} {u} {v} p q = ap (λ (z : ℤ). f z y) p ∙ ap (λ (z : ℤ). f 
 
 pub of_near : {n : ℕ} {r w : ℤ} → (r ≡ w) × Near n r → n ≤ 2 ^ 62 → Held n (read_back w64 r) w
 of_near {n} p l = stored (record { is = p.0; near = subst (Near n) p.0 p.1 }) l
+
+-- an i32 as an i64, by `from`
+pub of_from : (x : ℤ) {y : ℤ} → SFits w32 x → y ≡ read_back w32 x → Held (2 ^ 31) (read_back w64 y) x
+of_from x f e = stored (record { is = e ∙ read w32 x f; near = (of_wide x f).near }) (lit≤ tt)
 
 -- a time from 1970 on: the start of its date, and the time from there
 pub on_start : {s r x : ℤ} → (r ≡ s) × Near (2 ^ 58) r → Near (2 ^ 43) x

@@ -1,6 +1,7 @@
 -- What the functions of this crate and the crates above use of it, from one place. Nothing is added.
+pub use Rattle.std.specs.Prelude.{Some}
 pub use Rattle.schedule.proofs.FajrLaws.{fajr-alone}
-pub use Rattle.schedule.proofs.Promises.{of_near, held_middle, held_last_third, both, on_start, held_seventh}
+pub use Rattle.schedule.proofs.Promises.{of_near, of_from, held_middle, held_last_third, both, on_start, held_seventh}
 pub use Rattle.schedule.proofs.SharedLaws.{row_shared, since-unasked}
 pub use Rattle.schedule.proofs.Short.{short_near, short_is}
 pub use Rattle.schedule.proofs.Starts.{start_near}
@@ -20,4 +21,3 @@ unfoldable pub use Rattle.schedule.specs.Twilight.{night_of, or_of, by_season_of
 unfoldable pub use Rattle.schedule.specs.Twilight.{after_sunset_of, isha_bound_of, bounded_isha_of, unadjusted_isha_of, later_of, earlier_of}
 unfoldable pub use Rattle.schedule.specs.Twilight.{by_seventh_of, own_of}
 pub use Rattle.schedule.specs.Twilight.{next_day_of, fajr_bound_of}
-pub use Rattle.schedule.specs.declared.in_force.Current.TheVariants.{Some}

@@ -1,5 +1,7 @@
 -- A row's times from the courses of its three days are those of its hour numbers. Values that are shared change no number, and hours that
 -- are left out change no time. Assumes nothing.
+use Rattle.std.specs.Prelude.{Err, Ok, Option, Result, ℤ}
+use Rattle.refusals.specs.declared.Refusal.{Refusal}
 use Rattle.prelude.proofs.Logic.{◌≡◌, refl, ap, true, false, cases, lt_z, pos}
 use Rattle.calendar.specs.Answers.{tomorrow_of}
 use Rattle.calendar.specs.declared.dates.Date.{Date}
@@ -8,7 +10,6 @@ use Rattle.models.specs.declared.rules.Season.{Season}
 use Rattle.models.specs.declared.setting.Setting.{Setting}
 use Rattle.ops.specs.declared.transit.Course.{Course}
 use Rattle.ops.specs.Shared.{half_arc_of}
-use Rattle.solar.specs.declared.setting.SolarHour.{SolarHour}
 use Rattle.solar.specs.declared.times.SolarTime.{SolarTime}
 use Rattle.solar.specs.Hours.{sun_on}
 use Rattle.solar.specs.Shared.{date_course_of, course_sine_number_of, course_angle_number_of}
@@ -16,10 +17,7 @@ use Rattle.solar.specs.Times.{solar_hour_of}
 use Rattle.solar.proofs.SharedLaws.{angle-shared, numbers-shared, afternoon-shared}
 use Rattle.schedule.specs.Asked.{fajr_asked_of, isha_asked_of, asked_of, twilight_sines_of, fajr_hour_of, isha_hour_of}
 use Rattle.schedule.specs.declared.hours.RowHours.{RowHours}
-use Rattle.schedule.specs.declared.hours.Suns.{Suns}
-use Rattle.schedule.specs.declared.hours.Suns.TheVariants.{Whole, Refused}
 use Rattle.schedule.specs.declared.hours.ThreeSuns.{ThreeSuns}
-use Rattle.schedule.specs.declared.prayer_times.Worked.TheVariants.{Times}
 use Rattle.schedule.specs.Hours.{hours_of}
 use Rattle.schedule.specs.Numbers.{fajr_angle_of, isha_angle_of, shadow_of, numbers_of}
 use Rattle.schedule.specs.RowSuns.{courses_of, day_sun_of, row_suns_of, row_suns_hours_of}
@@ -27,7 +25,7 @@ use Rattle.schedule.specs.Times.{fajr_tomorrow_of, from_midnight_of, since_from,
 use Rattle.schedule.specs.Twilight.{by_seventh_of, own_of, unadjusted_fajr_of, bounded_isha_of, unadjusted_isha_of}
 
 -- ---- no time depends on an hour that is left out
-module _ (p : Parameters) (season : Season) (date : Date) (today next : SolarTime) (hour : SolarHour) where
+module _ (p : Parameters) (season : Season) (date : Date) (today next : SolarTime) (hour : Option ℤ) where
   fajr-unasked : unadjusted_fajr_of p season date today next (fajr_asked_of p season.latitude hour)
       ≡ unadjusted_fajr_of p season date today next hour
   unfolding unadjusted_fajr_of own_of fajr_asked_of
@@ -53,10 +51,10 @@ module _ (h : RowHours) (date : Date) (season : Season) (p : Parameters) where
         isha-unasked p season date suns.today suns.tomorrow h.isha,
       )
 
-  by-suns : (suns : Suns) → since_from suns asked date season p ≡ since_from suns h date season p
+  by-suns : (suns : Result ThreeSuns Refusal) → since_from suns asked date season p ≡ since_from suns h date season p
   unfolding since_from
-  by-suns (Refused r) = refl
-  by-suns (Whole suns) = ap Times (nine-unasked suns)
+  by-suns (Err r) = refl
+  by-suns (Ok suns) = ap Ok (nine-unasked suns)
 
   -- a row's times are the same without the hours that no time needs
   pub since-unasked : since_of asked date season p ≡ since_of h date season p

@@ -1,9 +1,8 @@
 -- This file need not be believed: what functions promise of each of the nine.
-use Rattle.std.specs.Prelude.{◌^◌, ℤ}
+use Rattle.refusals.specs.declared.Refusal.{Refusal}
+use Rattle.std.specs.Prelude.{◌^◌, ℤ, Err, Ok, Result}
 use Rattle.integers.specs.Parts.{Near}
 use Rattle.schedule.specs.declared.prayer_times.PrayerTimes.{PrayerTimes}
-use Rattle.schedule.specs.declared.prayer_times.Worked.{Worked}
-use Rattle.schedule.specs.declared.prayer_times.Worked.TheVariants.{Times, Refused}
 
 pub record Each (C : ℤ → Type 0) (t : PrayerTimes) : Type 0 where
   pub fajr : C t.fajr
@@ -17,6 +16,6 @@ pub record Each (C : ℤ → Type 0) (t : PrayerTimes) : Type 0 where
   pub fajr_tomorrow : C t.fajr_tomorrow
 
 -- the times, if there are any, are so near to 0h that the start of any date can be added
-unfoldable pub NearIn : Worked → Type 0
-NearIn (Times t) = Each (Near (2 ^ 43)) t
-NearIn (Refused r) = Unit {0}
+unfoldable pub NearIn : Result PrayerTimes Refusal → Type 0
+NearIn (Ok t) = Each (Near (2 ^ 43)) t
+NearIn (Err r) = Unit {0}

@@ -1,20 +1,26 @@
 -- The sun's times that a row is worked from, by the order's rule at midnight. Each is in seconds from 0h of its own date.
+use Rattle.std.specs.Prelude.{Err, Ok, Result, ℕ}
+use Rattle.refusals.specs.declared.Refusal.{Refusal}
+use Rattle.solar.specs.declared.times.Missing.{Missing}
+use Rattle.solar.specs.declared.times.SolarTime.{SolarTime}
+use Rattle.schedule.specs.declared.hours.ThreeSuns.{ThreeSuns}
 use Rattle.models.specs.declared.rules.Midnight.{Midnight}
 use Rattle.refusals.specs.Refusals.{refusal}
-use Rattle.solar.specs.declared.times.SolarDay.{SolarDay}
-use Rattle.solar.specs.declared.times.SolarDay.TheVariants as day
-use Rattle.solar.specs.Times.{solar_hour_of, solar_time_of}
+use Rattle.solar.specs.Times.{missing_number_of, solar_hour_of, solar_time_of}
 use Rattle.schedule.specs.declared.hours.RowNumbers.{RowNumbers}
-use Rattle.schedule.specs.declared.hours.Suns.{Suns}
-use Rattle.schedule.specs.declared.hours.Suns.TheVariants.{Whole, Refused}
 use Rattle.schedule.specs.declared.hours.RowHours.{RowHours}
 
+-- a day of the three, or the refusal of what it lacks
+unfoldable pub sun_of : Result SolarTime Missing → ℕ → Result SolarTime Refusal
+sun_of (Ok x) day = Ok x
+sun_of (Err m) day = Err (refusal (missing_number_of m) day)
+
 -- "Days 0, 1, 2 are the date and the two after it, tried in that order, each for 6, 7, 8"
-unfoldable pub suns_of : SolarDay → SolarDay → SolarDay → Suns
-suns_of (day.Lacks n) b c = Refused (refusal n 0)
-suns_of (day.Whole x) (day.Lacks n) c = Refused (refusal n 1)
-suns_of (day.Whole x) (day.Whole y) (day.Lacks n) = Refused (refusal n 2)
-suns_of (day.Whole x) (day.Whole y) (day.Whole z) = Whole (record { today = x; tomorrow = y; after = z })
+unfoldable pub suns_of : Result SolarTime Missing → Result SolarTime Missing → Result SolarTime Missing → Result ThreeSuns Refusal
+suns_of (Err m) b c = Err (refusal (missing_number_of m) 0)
+suns_of (Ok x) (Err m) c = Err (refusal (missing_number_of m) 1)
+suns_of (Ok x) (Ok y) (Err m) = Err (refusal (missing_number_of m) 2)
+suns_of (Ok x) (Ok y) (Ok z) = Ok (record { today = x; tomorrow = y; after = z })
 
 unfoldable pub hours_of : Midnight → RowNumbers → RowHours
 hours_of rule n =

@@ -1,5 +1,5 @@
 -- schedule.rs: the prayer in force at an instant, the next one, and the time until it.
-use Rattle.std.specs.Prelude.{◌≡◌, ℕ, zero, suc, ◌/◌, ◌≤◌, true, cond, ◌⊎◌, ℤ, pos, ◌+ℤ◌, ◌-ℤ◌, ◌*ℤ◌, ◌==◌, int_lt}
+use Rattle.std.specs.Prelude.{◌≡◌, ℕ, zero, suc, ◌/◌, ◌≤◌, true, cond, ◌⊎◌, ℤ, pos, ◌+ℤ◌, ◌-ℤ◌, ◌*ℤ◌, ◌==◌, int_lt, None, Option, Some}
 use Rattle.std.specs.Float.{binary64}
 use Rattle.std.specs.Float.Ieee.{of_int, to_unsigned}
 use Rattle.integers.specs.Parts.{P}
@@ -9,11 +9,7 @@ use Rattle.models.specs.declared.prayer.Prayer.{Prayer}
 use Rattle.models.specs.declared.prayer.Prayer.TheVariants.{Fajr, Sunrise, Dhuhr, Asr, Maghrib, Isha, Qiyam, FajrTomorrow}
 use Rattle.models.specs.Numbers.{prayer_number_of, prayer_of}
 use Rattle.schedule.specs.declared.in_force.Instant.{Instant}
-use Rattle.schedule.specs.declared.in_force.Current.{Current}
-use Rattle.schedule.specs.declared.in_force.Current.TheVariants.{Some, Nothing}
 use Rattle.schedule.specs.declared.in_force.HoursMinutes.{HoursMinutes}
-use Rattle.schedule.specs.declared.in_force.Remaining.{Remaining}
-use Rattle.schedule.specs.declared.in_force.Remaining.TheVariants as remaining
 use Rattle.schedule.specs.declared.prayer_times.PrayerTimes.{PrayerTimes}
 
 unfoldable pub time_of : PrayerTimes → Prayer → ℤ
@@ -42,17 +38,17 @@ unfoldable pub ahead_of : ℤ → Instant → ℕ
 ahead_of t i = P (t *ℤ pos in_second -ℤ nanoseconds_of i) / in_second
 
 -- "the last in the list .. whose instant lies less than one second ahead; else none", among its first n
-unfoldable pub last_of : PrayerTimes → Instant → ℕ → Current
-last_of t i zero = Nothing
+unfoldable pub last_of : PrayerTimes → Instant → ℕ → Option Prayer
+last_of t i zero = None
 last_of t i (suc n) = cond (ahead_of (time_of t (prayer_of (suc n))) i == 0) (Some (prayer_of (suc n))) (last_of t i n)
 
-abbrev pub current_time_of : PrayerTimes → Instant → Current
+abbrev pub current_time_of : PrayerTimes → Instant → Option Prayer
 current_time_of t i = last_of t i 8
 
 -- its number in the list of eight: Fajr is 1, and "none" is 0, before Fajr
-unfoldable pub current_number_of : Current → ℕ
+unfoldable pub current_number_of : Option Prayer → ℕ
 current_number_of (Some prayer) = prayer_number_of prayer
-current_number_of Nothing = 0
+current_number_of None = 0
 
 -- "Next after FajrTomorrow is FajrTomorrow."
 abbrev pub following_of : Prayer → Prayer
@@ -65,11 +61,11 @@ following_of Isha = Qiyam
 following_of Qiyam = FajrTomorrow
 following_of FajrTomorrow = FajrTomorrow
 
-unfoldable pub following_current_of : Current → Current
+unfoldable pub following_current_of : Option Prayer → Option Prayer
 following_current_of (Some prayer) = Some (following_of prayer)
-following_current_of Nothing = Nothing
+following_current_of None = None
 
-abbrev pub next_of : PrayerTimes → Instant → Current
+abbrev pub next_of : PrayerTimes → Instant → Option Prayer
 next_of t i = following_current_of (current_time_of t i)
 
 -- seconds as hours and minutes, by the crate's `whole`, `fract` and casts: "`time_remaining` in 3,599 s is 0 hours 60 minutes"
@@ -80,9 +76,9 @@ hours_minutes_of seconds =
     let fract = whole -ᶠ trunc_of whole in
     record { hours = to_unsigned 32 (trunc_of whole); minutes = to_unsigned 32 (round_of (fract *ᶠ dec 60 0)) }
 
-unfoldable pub until_of : PrayerTimes → Instant → Current → Remaining
-until_of t i (Some prayer) = remaining.Some (hours_minutes_of (ahead_of (time_of t prayer) i))
-until_of t i Nothing = remaining.Nothing
+unfoldable pub until_of : PrayerTimes → Instant → Option Prayer → Option HoursMinutes
+until_of t i (Some prayer) = Some (hours_minutes_of (ahead_of (time_of t prayer) i))
+until_of t i None = None
 
-abbrev pub time_remaining_of : PrayerTimes → Instant → Remaining
+abbrev pub time_remaining_of : PrayerTimes → Instant → Option HoursMinutes
 time_remaining_of t i = until_of t i (next_of t i)

@@ -1,5 +1,9 @@
 -- This file need not be believed: what rolls is a working value, and proofs/RowSunsLaws.antt says that in the years of an order it is what
 -- each row's own date gives.
+use Rattle.std.specs.Prelude.{Option, Result, ℤ}
+use Rattle.schedule.specs.declared.prayer_times.PrayerTimes.{PrayerTimes}
+use Rattle.refusals.specs.declared.Refusal.{Refusal}
+use Rattle.schedule.specs.declared.hours.ThreeSuns.{ThreeSuns}
 use Rattle.calendar.specs.Answers.{tomorrow_of}
 use Rattle.calendar.specs.declared.dates.Date.{Date}
 use Rattle.models.specs.declared.rules.Midnight.{Midnight}
@@ -13,9 +17,6 @@ use Rattle.ops.specs.Shared.{place_of, sidereal_time_of, course_of}
 use Rattle.solar.specs.Times.{solar_time_of}
 use Rattle.solar.specs.Shared.{date_course_of, course_numbers_of}
 use Rattle.schedule.specs.declared.hours.RowHours.{RowHours}
-use Rattle.schedule.specs.declared.hours.Suns.{Suns}
-use Rattle.schedule.specs.declared.prayer_times.FajrAlone.{FajrAlone}
-use Rattle.schedule.specs.declared.prayer_times.Worked.{Worked}
 use Rattle.unit.specs.declared.Coordinates.{Coordinates}
 use Rattle.schedule.specs.declared.rolling.Courses.{Courses}
 use Rattle.schedule.specs.declared.rolling.DaySun.{DaySun}
@@ -82,7 +83,7 @@ next_row_suns_of s r =
       fajr_tomorrow = fajr_hour_of s r.sines.fajr course;
     }
 
-abbrev pub three_suns_of : RowSuns → Suns
+abbrev pub three_suns_of : RowSuns → Result ThreeSuns Refusal
 three_suns_of r = suns_of r.today.times r.tomorrow.times r.after.times
 
 -- the sun's times that the row is worked from
@@ -97,13 +98,13 @@ row_suns_hours_of s r =
     }
 
 -- the row's day, in seconds from 0h of its date
-abbrev pub row_suns_since_of : Setting → RowSuns → Worked
+abbrev pub row_suns_since_of : Setting → RowSuns → Result PrayerTimes Refusal
 row_suns_since_of s r = since_of (row_suns_hours_of s r) r.date (season_of s) s.parameters
 
 -- from 1970 on
-abbrev pub row_suns_worked_of : Setting → RowSuns → Worked
+abbrev pub row_suns_worked_of : Setting → RowSuns → Result PrayerTimes Refusal
 row_suns_worked_of s r = started_in r.date (row_suns_since_of s r)
 
 -- the row's Fajr by itself
-unfoldable pub row_suns_fajr_of : Setting → RowSuns → FajrAlone
+unfoldable pub row_suns_fajr_of : Setting → RowSuns → Option ℤ
 row_suns_fajr_of s r = fajr_alone_of (three_suns_of r) r.date (season_of s) s.parameters r.fajr

@@ -1,5 +1,6 @@
 -- schedule.rs: the nine times of a date. They are worked in seconds from 0h of the date, and its 0h is added last.
-use Rattle.std.specs.Prelude.{ℤ, pos, ◌+ℤ◌, ◌-ℤ◌, ◌*ℤ◌}
+use Rattle.refusals.specs.declared.Refusal.{Refusal}
+use Rattle.std.specs.Prelude.{ℤ, pos, ◌+ℤ◌, ◌-ℤ◌, ◌*ℤ◌, Err, Ok, Option, Result}
 use Rattle.calendar.specs.Answers.{tomorrow_of}
 use Rattle.calendar.specs.Days.{day_number_of}
 use Rattle.calendar.specs.declared.dates.Date.{Date}
@@ -13,16 +14,11 @@ use Rattle.models.specs.Chosen.{season_of}
 use Rattle.models.specs.Settings.{time_adjustments_of}
 use Rattle.whole_minutes.specs.Times.{rounded_of, adjusted_of}
 use Rattle.night_portions.specs.Portions.{middle_of, last_third_of}
-use Rattle.solar.specs.declared.setting.SolarHour.{SolarHour}
 use Rattle.solar.specs.declared.times.SolarTime.{SolarTime}
 use Rattle.schedule.specs.declared.hours.ThreeSuns.{ThreeSuns}
-use Rattle.schedule.specs.declared.hours.Suns.{Suns}
-use Rattle.schedule.specs.declared.hours.Suns.TheVariants as suns
 use Rattle.schedule.specs.declared.hours.RowHours.{RowHours}
 use Rattle.schedule.specs.declared.hours.RowNumbers.{RowNumbers}
 use Rattle.schedule.specs.declared.prayer_times.PrayerTimes.{PrayerTimes}
-use Rattle.schedule.specs.declared.prayer_times.Worked.{Worked}
-use Rattle.schedule.specs.declared.prayer_times.Worked.TheVariants.{Times, Refused}
 use Rattle.schedule.specs.Hours.{hours_of}
 use Rattle.schedule.specs.Numbers.{numbers_of}
 use Rattle.schedule.specs.Twilight.{next_day_of, or_of, unadjusted_fajr_of, unadjusted_isha_of}
@@ -36,7 +32,7 @@ unfoldable pub final_of : Parameters → Prayer → ℤ → ℤ
 final_of p prayer t = rounded_of p.rounding (adjusted_of t (time_adjustments_of p prayer))
 
 -- "Tomorrow's Fajr is worked as the next date's, from that date's sun and the night after it; it is adjusted, not rounded."
-unfoldable pub fajr_tomorrow_of : Parameters → Season → Date → SolarTime → SolarTime → SolarHour → ℤ
+unfoldable pub fajr_tomorrow_of : Parameters → Season → Date → SolarTime → SolarTime → Option ℤ → ℤ
 fajr_tomorrow_of p season date tomorrow after hour =
     next_day_of (adjusted_of (unadjusted_fajr_of p season (tomorrow_of date) tomorrow after hour) (time_adjustments_of p Fajr))
 
@@ -82,29 +78,29 @@ started_of start t =
       fajr_tomorrow = start +ℤ t.fajr_tomorrow;
     }
 
-unfoldable pub started_in : Date → Worked → Worked
-started_in date (Times t) = Times (started_of (start_of date) t)
-started_in date (Refused r) = Refused r
+unfoldable pub started_in : Date → Result PrayerTimes Refusal → Result PrayerTimes Refusal
+started_in date (Ok t) = Ok (started_of (start_of date) t)
+started_in date (Err r) = Err r
 
 -- a date is refused if one of the three days lacks a time
-unfoldable pub since_from : Suns → RowHours → Date → Season → Parameters → Worked
-since_from (suns.Refused r) h date season p = Refused r
-since_from (suns.Whole three) h date season p = Times (from_midnight_of p season date three h)
+unfoldable pub since_from : Result ThreeSuns Refusal → RowHours → Date → Season → Parameters → Result PrayerTimes Refusal
+since_from (Err r) h date season p = Err r
+since_from (Ok three) h date season p = Ok (from_midnight_of p season date three h)
 
-unfoldable pub since_of : RowHours → Date → Season → Parameters → Worked
+unfoldable pub since_of : RowHours → Date → Season → Parameters → Result PrayerTimes Refusal
 since_of h date season p = since_from h.suns h date season p
 
-abbrev pub worked_of : RowHours → Date → Season → Parameters → Worked
+abbrev pub worked_of : RowHours → Date → Season → Parameters → Result PrayerTimes Refusal
 worked_of h date season p = started_in date (since_of h date season p)
 
-abbrev pub worked_by : RowNumbers → Date → Setting → Worked
+abbrev pub worked_by : RowNumbers → Date → Setting → Result PrayerTimes Refusal
 worked_by numbers date s = worked_of (hours_of s.rules.midnight numbers) date (season_of s) s.parameters
 
 -- from a date and its setting alone: in seconds from 0h of the date, and from 1970 on
-abbrev pub since_at : Date → Setting → Worked
+abbrev pub since_at : Date → Setting → Result PrayerTimes Refusal
 since_at date s = since_of (hours_of s.rules.midnight (numbers_of date s.coordinates s.parameters)) date (season_of s) s.parameters
 
-abbrev pub worked_at : Date → Setting → Worked
+abbrev pub worked_at : Date → Setting → Result PrayerTimes Refusal
 worked_at date s = started_in date (since_at date s)
 
 -- document 01: "A refusal gives number and place, no times"

@@ -1,6 +1,6 @@
 -- schedule.rs: Fajr and Isha, before their minutes are added. Each is the time of an angle, bounded by a portion of the night or by the
 -- season. Times are seconds from 0h of the date.
-use Rattle.std.specs.Prelude.{Bool, true, false, cond, ◌&&◌, ℤ, pos, ◌+ℤ◌, ◌-ℤ◌, ◌*ℤ◌, int_lt, Float}
+use Rattle.std.specs.Prelude.{Bool, true, false, cond, ◌&&◌, ℤ, pos, ◌+ℤ◌, ◌-ℤ◌, ◌*ℤ◌, int_lt, Float, None, Option, Some}
 use Rattle.std.specs.Float.Ieee.{le}
 use Rattle.integers.specs.Ends.{least32, most32}
 use Rattle.float64.specs.Ops.{dec}
@@ -16,8 +16,6 @@ use Rattle.models.specs.Settings.{night_portions_of}
 use Rattle.whole_minutes.specs.Times.{rounded_of}
 use Rattle.night_portions.specs.Portions.{portion_before_of, portion_after_of, seventh_of}
 use Rattle.ops.specs.Season.{morning_seconds_of, evening_seconds_of}
-use Rattle.solar.specs.declared.setting.SolarHour.{SolarHour}
-use Rattle.solar.specs.declared.setting.SolarHour.TheVariants.{Some, Nothing}
 use Rattle.solar.specs.declared.times.SolarTime.{SolarTime}
 
 -- a time of the next date, from 0h of this one
@@ -35,9 +33,9 @@ unfoldable pub earlier_of : ℤ → ℤ → ℤ
 earlier_of a b = cond (int_lt b a) b a
 
 -- `unwrap_or`: `other` if there is no time
-unfoldable pub or_of : SolarHour → ℤ → ℤ
+unfoldable pub or_of : Option ℤ → ℤ → ℤ
 or_of (Some t) other = t
-or_of Nothing other = other
+or_of None other = other
 
 -- "MoonsightingCommittee bounds by season"
 abbrev pub by_season_of : Method → Bool
@@ -61,7 +59,7 @@ unfolding dec
 by_seventh_of method latitude = le (dec 55 0) latitude && by_season_of method
 
 -- the time that is compared with its bound. "Without an angle time the bound serves."
-unfoldable pub own_of : Method → Float → ℤ → SolarHour → ℤ → ℤ
+unfoldable pub own_of : Method → Float → ℤ → Option ℤ → ℤ → ℤ
 own_of method latitude seventh hour bound = cond (by_seventh_of method latitude) seventh (or_of hour bound)
 
 -- seconds limited to the range of an i32, so that every sum fits. No order's seconds are near its ends (schedule_laws, SunSpans.antt).
@@ -78,7 +76,7 @@ abbrev pub fajr_bound_of : Parameters → Season → Date → SolarTime → ℤ 
 fajr_bound_of p season date today night = today.sunrise +ℤ before_sunrise_of p season date night
 
 -- "Unadjusted Fajr is the later of its angle's time and the night bound"
-unfoldable pub unadjusted_fajr_of : Parameters → Season → Date → SolarTime → SolarTime → SolarHour → ℤ
+unfoldable pub unadjusted_fajr_of : Parameters → Season → Date → SolarTime → SolarTime → Option ℤ → ℤ
 unadjusted_fajr_of p season date today next hour =
     let night = night_of today next in
     let bound = fajr_bound_of p season date today night in
@@ -97,13 +95,13 @@ isha_bound_of p season date today night =
     cond (by_season_of p.method) (rounded_of Nearest bound) bound
 
 -- "Isha the earlier"
-unfoldable pub bounded_isha_of : Parameters → Season → Date → SolarTime → SolarTime → SolarHour → ℤ
+unfoldable pub bounded_isha_of : Parameters → Season → Date → SolarTime → SolarTime → Option ℤ → ℤ
 bounded_isha_of p season date today next hour =
     let night = night_of today next in
     let bound = isha_bound_of p season date today night in
     earlier_of (own_of p.method season.latitude (today.sunset +ℤ seventh_of night) hour bound) bound
 
 -- "An interval above 0 replaces the Isha rule."
-unfoldable pub unadjusted_isha_of : Parameters → Season → Date → SolarTime → SolarTime → SolarHour → ℤ
+unfoldable pub unadjusted_isha_of : Parameters → Season → Date → SolarTime → SolarTime → Option ℤ → ℤ
 unadjusted_isha_of p season date today next hour =
     cond (int_lt (pos 0) p.isha_interval) (today.sunset +ℤ p.isha_interval *ℤ pos 60) (bounded_isha_of p season date today next hour)

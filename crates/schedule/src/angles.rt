@@ -8,7 +8,6 @@ use models::parameters::Parameters;
 use models::setting::Setting;
 use ops::transit::Course;
 use solar::hours::{afternoon_number, sine_number};
-use solar::setting::SolarHour;
 use solar::times::solar_hour;
 use unit::Angle;
 
@@ -30,52 +29,39 @@ impl TwilightSines {
     }
 
     // None if a seventh of the night takes the angle's place.
-    pub fn fajr_hour(self, setting: Setting, course: Course) -> SolarHour
+    #[tactic(auto, unfolding(crate::specs::Asked::fajr_asked_of))]
+    pub fn fajr_hour(self, setting: Setting, course: Course) -> Option<i32>
         ensures { result ≡ fajr_hour_of setting self.fajr course }
     {
-        let coordinates = setting.coordinates;
-        let parameters = setting.parameters;
-        let rules = setting.rules;
-        let method = parameters.method;
-        if by_seventh(method, coordinates.latitude) {
-            return SolarHour::Nothing;
+        if by_seventh(setting.parameters.method, setting.coordinates.latitude) {
+            return None;
         }
-        let midnight = rules.midnight;
-        let angle = Angle::new(-parameters.fajr_angle);
-        solar_hour(midnight, sine_number(course, self.fajr, angle, false))
+        let angle = Angle::new(-setting.parameters.fajr_angle);
+        let number = sine_number(course, self.fajr, angle, false);
+        solar_hour(setting.rules.midnight, number)
     }
 
     // None if an interval or a seventh of the night takes the angle's place.
-    pub fn isha_hour(self, setting: Setting, course: Course) -> SolarHour
+    #[tactic(auto, unfolding(crate::specs::Asked::isha_asked_of))]
+    pub fn isha_hour(self, setting: Setting, course: Course) -> Option<i32>
         ensures { result ≡ isha_hour_of setting self.isha course }
     {
-        let coordinates = setting.coordinates;
-        let parameters = setting.parameters;
-        let rules = setting.rules;
-        let method = parameters.method;
-        if parameters.isha_interval > 0 {
-            return SolarHour::Nothing;
+        if setting.parameters.isha_interval > 0 {
+            return None;
         }
-        if by_seventh(method, coordinates.latitude) {
-            return SolarHour::Nothing;
+        if by_seventh(setting.parameters.method, setting.coordinates.latitude) {
+            return None;
         }
-        let midnight = rules.midnight;
-        let angle = Angle::new(-parameters.isha_angle);
-        solar_hour(midnight, sine_number(course, self.isha, angle, true))
+        let angle = Angle::new(-setting.parameters.isha_angle);
+        let number = sine_number(course, self.isha, angle, true);
+        solar_hour(setting.rules.midnight, number)
     }
 }
 
-pub fn asr_hour(setting: Setting, course: Course) -> SolarHour
+pub fn asr_hour(setting: Setting, course: Course) -> Option<i32>
     ensures { result ≡ asr_hour_of setting course }
 {
-    let coordinates = setting.coordinates;
-    let parameters = setting.parameters;
-    let rules = setting.rules;
-    let midnight = rules.midnight;
-    let madhab = parameters.madhab;
-    let shadow_length = madhab.shadow() as f64;
-    solar_hour(
-        midnight,
-        afternoon_number(course, coordinates.latitude, shadow_length),
-    )
+    let shadow_length = setting.parameters.madhab.shadow() as f64;
+    let number = afternoon_number(course, setting.coordinates.latitude, shadow_length);
+    solar_hour(setting.rules.midnight, number)
 }

@@ -1,12 +1,11 @@
 // The hour numbers that a row's times are worked from, and the sun's times that they give.
 ghost use Rattle.std.specs.Prelude.{◌≡◌};
-ghost use Rattle.schedule.specs.Hours.{suns_of, hours_of};
+ghost use Rattle.schedule.specs.Hours.{sun_of, suns_of, hours_of};
 
 use models::rules::Midnight;
 use refusals::Refusal;
 use solar::hours::HourNumbers;
-use solar::setting::SolarHour;
-use solar::times::{SolarDay, SolarTime, solar_hour};
+use solar::times::{Missing, SolarTime, solar_hour};
 
 // The numbers of the date and of the two dates after it, of the date's Fajr, Asr and Isha, and of the next date's Fajr.
 #[repr(C)]
@@ -29,50 +28,49 @@ pub struct ThreeSuns {
     pub after: SolarTime,
 }
 
-#[derive(Clone, Copy)]
-pub enum Suns {
-    Whole(ThreeSuns),
-    // Number 6, 7 or 8. The place is the first of days 0, 1 and 2 that lacks a time.
-    Refused(Refusal),
-}
-
 // Each time is counted from 0h of its own date.
 #[derive(Clone, Copy)]
 pub struct RowHours {
-    pub suns: Suns,
-    pub fajr: SolarHour,
-    pub asr: SolarHour,
-    pub isha: SolarHour,
-    pub fajr_tomorrow: SolarHour,
+    pub suns: Result<ThreeSuns, Refusal>,
+    pub fajr: Option<i32>,
+    pub asr: Option<i32>,
+    pub isha: Option<i32>,
+    pub fajr_tomorrow: Option<i32>,
 }
 
-impl Suns {
-    pub fn new(today: SolarDay, tomorrow: SolarDay, after: SolarDay) -> Suns
+// A day's times, or its refusal: 6, 7 or 8, with the day, 0, 1 or 2, as its place.
+#[tactic(auto, unfolding(crate::specs::Hours::sun_of))]
+fn sun(times: Result<SolarTime, Missing>, day: u32) -> Result<SolarTime, Refusal>
+    ensures { result ≡ sun_of times day }
+{
+    times.map_err(|missing| Refusal::new(missing.number(), day))
+}
+
+impl ThreeSuns {
+    // The three days, or the refusal of the first that lacks a time.
+    #[tactic(auto, unfolding(crate::specs::Hours::suns_of, crate::specs::Hours::sun_of))]
+    pub fn new(
+        today: Result<SolarTime, Missing>,
+        tomorrow: Result<SolarTime, Missing>,
+        after: Result<SolarTime, Missing>,
+    ) -> Result<ThreeSuns, Refusal>
         ensures { result ≡ suns_of today tomorrow after }
     {
-        match today {
-            SolarDay::Lacks(number) => Suns::Refused(Refusal::new(number, 0)),
-            SolarDay::Whole(first) => match tomorrow {
-                SolarDay::Lacks(number) => Suns::Refused(Refusal::new(number, 1)),
-                SolarDay::Whole(second) => match after {
-                    SolarDay::Lacks(number) => Suns::Refused(Refusal::new(number, 2)),
-                    SolarDay::Whole(third) => Suns::Whole(ThreeSuns {
-                        today: first,
-                        tomorrow: second,
-                        after: third,
-                    }),
-                },
-            },
-        }
+        Ok(ThreeSuns {
+            today: sun(today, 0)?,
+            tomorrow: sun(tomorrow, 1)?,
+            after: sun(after, 2)?,
+        })
     }
 }
 
 impl RowHours {
+    #[tactic(auto, unfolding(crate::specs::Hours::hours_of))]
     pub fn new(rule: Midnight, numbers: RowNumbers) -> RowHours
         ensures { result ≡ hours_of rule numbers }
     {
         RowHours {
-            suns: Suns::new(
+            suns: ThreeSuns::new(
                 SolarTime::new(rule, numbers.today),
                 SolarTime::new(rule, numbers.tomorrow),
                 SolarTime::new(rule, numbers.after),

@@ -1,45 +1,21 @@
-// schedule.rs: the builder of a date's times, by value. Each of the crate's three `Option`s is an enum.
+// schedule.rs: the builder of a date's times, by value.
 ghost use Rattle.std.specs.Prelude.{◌≡◌};
 ghost use Rattle.schedule.specs.Builder.{no_schedule, on_of, for_location_of, with_configuration_of, calculate_of};
 
-use super::prayer_times::Worked;
 use super::rolling::RowSuns;
+use crate::prayer_times::PrayerTimes;
 use calendar::dates::Date;
 use models::parameters::Parameters;
 use models::rules::Rules;
 use models::setting::Setting;
+use refusals::Refusal;
 use unit::Coordinates;
 
 #[derive(Clone, Copy)]
-pub enum ChosenDate {
-    Some(Date),
-    Nothing,
-}
-
-#[derive(Clone, Copy)]
-pub enum ChosenPlace {
-    Some(Coordinates),
-    Nothing,
-}
-
-#[derive(Clone, Copy)]
-pub enum ChosenParameters {
-    Some(Parameters),
-    Nothing,
-}
-
-#[derive(Clone, Copy)]
 pub struct PrayerSchedule {
-    pub date: ChosenDate,
-    pub coordinates: ChosenPlace,
-    pub params: ChosenParameters,
-}
-
-#[derive(Clone, Copy)]
-pub enum Calculated {
-    Some(Worked),
-    // Date, coordinates and parameters are all needed.
-    Nothing,
+    pub date: Option<Date>,
+    pub coordinates: Option<Coordinates>,
+    pub params: Option<Parameters>,
 }
 
 impl PrayerSchedule {
@@ -47,68 +23,49 @@ impl PrayerSchedule {
         ensures { result ≡ no_schedule }
     {
         PrayerSchedule {
-            date: ChosenDate::Nothing,
-            coordinates: ChosenPlace::Nothing,
-            params: ChosenParameters::Nothing,
+            date: None,
+            coordinates: None,
+            params: None,
         }
     }
 
     pub fn on(self, date: Date) -> PrayerSchedule
         ensures { result ≡ on_of self date }
     {
-        let coordinates = self.coordinates;
-        let params = self.params;
         PrayerSchedule {
-            date: ChosenDate::Some(date),
-            coordinates: coordinates,
-            params: params,
+            date: Some(date),
+            ..self
         }
     }
 
     pub fn for_location(self, location: Coordinates) -> PrayerSchedule
         ensures { result ≡ for_location_of self location }
     {
-        let date = self.date;
-        let params = self.params;
         PrayerSchedule {
-            date: date,
-            coordinates: ChosenPlace::Some(location),
-            params: params,
+            coordinates: Some(location),
+            ..self
         }
     }
 
     pub fn with_configuration(self, params: Parameters) -> PrayerSchedule
         ensures { result ≡ with_configuration_of self params }
     {
-        let date = self.date;
-        let coordinates = self.coordinates;
         PrayerSchedule {
-            date: date,
-            coordinates: coordinates,
-            params: ChosenParameters::Some(params),
+            params: Some(params),
+            ..self
         }
     }
 
-    pub fn calculate(self) -> Calculated
+    #[tactic(auto, unfolding(crate::specs::Builder::calculated_from))]
+    pub fn calculate(self) -> Option<Result<PrayerTimes, Refusal>>
         ensures { result ≡ calculate_of self }
     {
-        let date = self.date;
-        let place = self.coordinates;
-        let params = self.params;
-        let ChosenDate::Some(date) = date else {
-            return Calculated::Nothing;
-        };
-        let ChosenPlace::Some(coordinates) = place else {
-            return Calculated::Nothing;
-        };
-        let ChosenParameters::Some(parameters) = params else {
-            return Calculated::Nothing;
-        };
+        let date = self.date?;
         let setting = Setting {
-            coordinates: coordinates,
-            parameters: parameters,
+            coordinates: self.coordinates?,
+            parameters: self.params?,
             rules: Rules::source(),
         };
-        Calculated::Some(RowSuns::new(date, setting).work(setting))
+        Some(RowSuns::new(date, setting).work(setting))
     }
 }

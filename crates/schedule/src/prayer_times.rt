@@ -11,8 +11,8 @@ ghost use Rattle.schedule.specs.Times.{since_of, worked_of, worked_by};
 ghost use Rattle.schedule.specs.Each.{Each, NearIn};
 ghost use Rattle.schedule.specs.Twilight.{unadjusted_fajr_of};
 
-use super::hours::{RowHours, RowNumbers, Suns, ThreeSuns};
-use super::twilight::{or, unadjusted_fajr, unadjusted_isha};
+use super::hours::{RowHours, RowNumbers, ThreeSuns};
+use super::twilight::{Day, Seconds};
 use calendar::dates::Date;
 use models::parameters::Parameters;
 use models::prayer::Prayer;
@@ -21,11 +21,11 @@ use models::rules::Season;
 use models::setting::Setting;
 use night_portions::portions::{last_third, middle};
 use refusals::Refusal;
-use solar::setting::SolarHour;
 use solar::times::SolarTime;
 use whole_minutes::times::{adjust_time, rounded_minute};
 
 // In seconds from 1970-01-01 0h UTC, or from 0h of the date if a function says so. Always in this order: they are not sorted.
+// How near to 0h they are is a clause (Each, NearIn) and no invariant, since the structure is C's and holds the times from 1970 too.
 #[repr(C)]
 #[derive(Clone, Copy)]
 pub struct PrayerTimes {
@@ -40,21 +40,6 @@ pub struct PrayerTimes {
     pub fajr_tomorrow: i64,
 }
 
-#[derive(Clone, Copy)]
-pub enum Worked {
-    Times(PrayerTimes),
-    // Number 6, 7 or 8, with the day as its place.
-    Refused(Refusal),
-}
-
-// A date's Fajr by itself, in seconds from 0h of the date.
-#[derive(Clone, Copy)]
-pub enum FajrAlone {
-    Some(i64),
-    // The date's times are refused.
-    Nothing,
-}
-
 // Two times of the night, which is from maghrib to tomorrow's Fajr.
 #[derive(Clone, Copy)]
 struct Night {
@@ -63,29 +48,13 @@ struct Night {
 }
 
 // Adds the prayer's own minutes and the method's, then rounds.
-fn final_time(parameters: Parameters, prayer: Prayer, time: i64, rounding: Rounding) -> i64
-    requires { Near (2 ^ 38) time }
-    ensures { (result ≡ rounded_of rounding (adjusted_of time (time_adjustments_of parameters prayer))) × Near (2 ^ 40) result }
+fn final_time(parameters: Parameters, prayer: Prayer, time: Seconds, rounding: Rounding) -> i64
+    ensures { (result ≡ rounded_of rounding (adjusted_of time.count (time_adjustments_of parameters prayer))) × Near (2 ^ 40) result }
 {
     rounded_minute(
-        adjust_time(time, parameters.time_adjustments(prayer)),
+        adjust_time(time.count, parameters.time_adjustments(prayer)),
         rounding,
     )
-}
-
-// Tomorrow's Fajr is adjusted but not rounded.
-fn next_fajr(
-    parameters: Parameters,
-    season: Season,
-    date: Date,
-    tomorrow: SolarTime,
-    after: SolarTime,
-    hour: SolarHour,
-) -> i64
-    ensures { (result ≡ fajr_tomorrow_of parameters season date tomorrow after hour) × Near (2 ^ 41) result }
-{
-    let fajr = unadjusted_fajr(parameters, season, date.tomorrow(), tomorrow, after, hour);
-    final_time(parameters, Prayer::Fajr, fajr, Rounding::None) + 86400
 }
 
 // The time `seconds` after maghrib, to the nearest minute.
@@ -108,61 +77,64 @@ fn calculate_qiyam(maghrib: i64, fajr: i64) -> Night
     }
 }
 
-// The nine times, in seconds from 0h of the date.
-fn from_midnight(
-    parameters: Parameters,
-    season: Season,
-    date: Date,
-    suns: ThreeSuns,
-    hours: RowHours,
-) -> PrayerTimes
-    ensures { (result ≡ from_midnight_of parameters season date suns hours) × Each (Near (2 ^ 43)) result }
-{
-    let rounding = parameters.rounding;
-    let today = suns.today;
-    let tomorrow = suns.tomorrow;
-    let hour = hours.fajr;
-    let afternoon = hours.asr;
-    let evening = hours.isha;
-    let next = hours.fajr_tomorrow;
-    let sunrise = today.sunrise as i64;
-    let transit = today.transit as i64;
-    let sunset = today.sunset as i64;
-    let fajr = unadjusted_fajr(parameters, season, date, today, tomorrow, hour);
-    let asr = or(afternoon, transit);
-    let isha = unadjusted_isha(parameters, season, date, today, tomorrow, evening);
-    let maghrib = final_time(parameters, Prayer::Maghrib, sunset, rounding);
-    let fajr_tomorrow = next_fajr(parameters, season, date, tomorrow, suns.after, next);
-    let night = calculate_qiyam(maghrib, fajr_tomorrow);
-    PrayerTimes {
-        fajr: final_time(parameters, Prayer::Fajr, fajr, rounding),
-        sunrise: final_time(parameters, Prayer::Sunrise, sunrise, rounding),
-        dhuhr: final_time(parameters, Prayer::Dhuhr, transit, rounding),
-        asr: final_time(parameters, Prayer::Asr, asr, rounding),
-        maghrib: maghrib,
-        isha: final_time(parameters, Prayer::Isha, isha, rounding),
-        middle_of_the_night: night.middle,
-        qiyam: night.last_third,
-        fajr_tomorrow: fajr_tomorrow,
+impl Day {
+    // Tomorrow's Fajr is adjusted but not rounded.
+    #[tactic(auto, unfolding(crate::specs::Times::fajr_tomorrow_of))]
+    fn next_fajr(self, tomorrow: SolarTime, after: SolarTime, hour: Option<i32>) -> i64
+        ensures { (result ≡ fajr_tomorrow_of self.parameters self.season self.date tomorrow after hour) × Near (2 ^ 41) result }
+    {
+        let next = Day {
+            date: self.date.tomorrow(),
+            ..self
+        };
+        let fajr = next.unadjusted_fajr(tomorrow, after, hour);
+        final_time(self.parameters, Prayer::Fajr, fajr, Rounding::None) + 86400
+    }
+
+    // The nine times, in seconds from 0h of the date.
+    fn from_midnight(self, suns: ThreeSuns, hours: RowHours) -> PrayerTimes
+        ensures { (result ≡ from_midnight_of self.parameters self.season self.date suns hours) × Each (Near (2 ^ 43)) result }
+    {
+        let parameters = self.parameters;
+        let rounding = parameters.rounding;
+        let today = suns.today;
+        let tomorrow = suns.tomorrow;
+        let sunrise = Seconds::from(today.sunrise);
+        let transit = Seconds::from(today.transit);
+        let sunset = Seconds::from(today.sunset);
+        let fajr = self.unadjusted_fajr(today, tomorrow, hours.fajr);
+        let asr = transit.unless(hours.asr);
+        let isha = self.unadjusted_isha(today, tomorrow, hours.isha);
+        let maghrib = final_time(parameters, Prayer::Maghrib, sunset, rounding);
+        let fajr_tomorrow = self.next_fajr(tomorrow, suns.after, hours.fajr_tomorrow);
+        let night = calculate_qiyam(maghrib, fajr_tomorrow);
+        PrayerTimes {
+            fajr: final_time(parameters, Prayer::Fajr, fajr, rounding),
+            sunrise: final_time(parameters, Prayer::Sunrise, sunrise, rounding),
+            dhuhr: final_time(parameters, Prayer::Dhuhr, transit, rounding),
+            asr: final_time(parameters, Prayer::Asr, asr, rounding),
+            maghrib,
+            isha: final_time(parameters, Prayer::Isha, isha, rounding),
+            middle_of_the_night: night.middle,
+            qiyam: night.last_third,
+            fajr_tomorrow,
+        }
+    }
+
+    // The Fajr of the nine times. The other eight are not worked.
+    #[tactic(auto, unfolding(crate::specs::Times::final_of))]
+    fn final_fajr(self, suns: ThreeSuns, hour: Option<i32>) -> i64
+        ensures { result ≡ final_of self.parameters Fajr
+            (unadjusted_fajr_of self.parameters self.season self.date suns.today suns.tomorrow hour) }
+    {
+        let parameters = self.parameters;
+        let fajr = self.unadjusted_fajr(suns.today, suns.tomorrow, hour);
+        final_time(parameters, Prayer::Fajr, fajr, parameters.rounding)
     }
 }
 
-// The Fajr of the nine times. The other eight are not worked.
-fn final_fajr(
-    parameters: Parameters,
-    season: Season,
-    date: Date,
-    suns: ThreeSuns,
-    hour: SolarHour,
-) -> i64
-    ensures { result ≡ final_of parameters Fajr (unadjusted_fajr_of parameters season date suns.today suns.tomorrow hour) }
-{
-    let rule = parameters.rounding;
-    let fajr = unadjusted_fajr(parameters, season, date, suns.today, suns.tomorrow, hour);
-    final_time(parameters, Prayer::Fajr, fajr, rule)
-}
-
 // 0h of a date, in seconds from 1970-01-01 0h UTC.
+#[tactic(auto, unfolding(crate::specs::Times::start_of))]
 fn start(date: Date) -> i64
     ensures { (result ≡ start_of date) × Near (2 ^ 58) result }
 {
@@ -170,6 +142,7 @@ fn start(date: Date) -> i64
 }
 
 // The nine times, in seconds from 1970-01-01 0h UTC.
+#[tactic(auto, unfolding(crate::specs::Times::started_of))]
 fn started(date: Date, times: PrayerTimes) -> PrayerTimes
     requires { Each (Near (2 ^ 43)) times }
     ensures { result ≡ started_of (start_of date) times }
@@ -190,47 +163,55 @@ fn started(date: Date, times: PrayerTimes) -> PrayerTimes
 
 impl RowHours {
     // The nine in seconds from 0h of the date, or its refusal.
-    pub fn since_midnight(self, date: Date, season: Season, parameters: Parameters) -> Worked
-        ensures { (result ≡ since_of self date season parameters) × NearIn result }
-    {
-        let suns = self.suns;
-        match suns {
-            Suns::Whole(three) => {
-                Worked::Times(from_midnight(parameters, season, date, three, self))
-            }
-            Suns::Refused(refusal) => Worked::Refused(refusal),
-        }
-    }
-
-    // The nine times of a date, or its refusal.
-    pub fn work(self, date: Date, season: Season, parameters: Parameters) -> Worked
-        ensures { result ≡ worked_of self date season parameters }
-    {
-        match self.since_midnight(date, season, parameters) {
-            Worked::Times(times) => Worked::Times(started(date, times)),
-            Worked::Refused(refusal) => Worked::Refused(refusal),
-        }
-    }
-}
-
-impl Suns {
-    // Works the Fajr of `date` and none of its other times. `date` is the first of the three dates of these suns.
-    pub fn fajr(
+    #[tactic(auto, unfolding(crate::specs::Times::since_of, crate::specs::Times::since_from, crate::specs::Each::NearIn))]
+    pub fn since_midnight(
         self,
         date: Date,
         season: Season,
         parameters: Parameters,
-        hour: SolarHour,
-    ) -> FajrAlone
-        ensures { result ≡ fajr_alone_of self date season parameters hour }
+    ) -> Result<PrayerTimes, Refusal>
+        ensures { (result ≡ since_of self date season parameters) × NearIn result }
     {
-        match self {
-            Suns::Whole(three) => FajrAlone::Some(final_fajr(
-                parameters, season, date, three, hour,
-            )),
-            Suns::Refused(_) => FajrAlone::Nothing,
-        }
+        let day = Day {
+            parameters,
+            season,
+            date,
+        };
+        Ok(day.from_midnight(self.suns?, self))
     }
+
+    // The nine times of a date, or its refusal.
+    #[tactic(auto, unfolding(crate::specs::Times::started_in, crate::specs::Each::NearIn))]
+    pub fn work(
+        self,
+        date: Date,
+        season: Season,
+        parameters: Parameters,
+    ) -> Result<PrayerTimes, Refusal>
+        ensures { result ≡ worked_of self date season parameters }
+    {
+        let times = self.since_midnight(date, season, parameters)?;
+        Ok(started(date, times))
+    }
+}
+
+// Works the Fajr of `date` and none of its other times, in seconds from 0h of the date. `date` is the first of the three dates of these suns.
+#[tactic(auto, unfolding(crate::specs::Fajr::fajr_alone_of))]
+pub fn fajr_alone(
+    suns: Result<ThreeSuns, Refusal>,
+    date: Date,
+    season: Season,
+    parameters: Parameters,
+    hour: Option<i32>,
+) -> Option<i64>
+    ensures { result ≡ fajr_alone_of suns date season parameters hour }
+{
+    let day = Day {
+        parameters,
+        season,
+        date,
+    };
+    suns.ok().map(|three| day.final_fajr(three, hour))
 }
 
 impl PrayerTimes {
@@ -247,12 +228,13 @@ impl PrayerTimes {
         fajr_tomorrow: 0,
     };
 
-    pub fn new(numbers: RowNumbers, date: Date, setting: Setting) -> Worked
+    pub fn new(numbers: RowNumbers, date: Date, setting: Setting) -> Result<PrayerTimes, Refusal>
         ensures { result ≡ worked_by numbers date setting }
     {
-        let rules = setting.rules;
-        let midnight = rules.midnight;
-        let hours = RowHours::new(midnight, numbers);
-        hours.work(date, setting.season(), setting.parameters)
+        RowHours::new(setting.rules.midnight, numbers).work(
+            date,
+            setting.season(),
+            setting.parameters,
+        )
     }
 }

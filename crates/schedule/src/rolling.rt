@@ -10,24 +10,25 @@ ghost use Rattle.schedule.specs.RowSuns.{courses_of, day_sun_of, row_suns_of, ne
 ghost use Rattle.schedule.specs.RowSuns.{row_suns_worked_of, row_suns_fajr_of};
 
 use super::angles::{TwilightSines, asr_hour};
-use super::hours::{RowHours, Suns};
-use super::prayer_times::{FajrAlone, Worked};
+use super::hours::RowHours;
+use crate::hours::ThreeSuns;
+use crate::prayer_times::{PrayerTimes, fajr_alone};
 use calendar::dates::Date;
 use julian::day::date_julian_day;
 use models::rules::Rules;
 use models::setting::Setting;
 use ops::coordinates::{Equatorial, MeanElements, place, sidereal_time};
 use ops::transit::{Course, Observer};
+use refusals::Refusal;
 use solar::hours::hour_numbers;
-use solar::setting::SolarHour;
-use solar::times::{SolarDay, SolarTime};
+use solar::times::{Missing, SolarTime};
 use unit::Coordinates;
 
 // The sun's course over the place on a day, and its times.
 #[derive(Clone, Copy)]
 pub struct DaySun {
     pub course: Course,
-    pub times: SolarDay,
+    pub times: Result<SolarTime, Missing>,
 }
 
 // What a row is worked from: the sun of its date and of the two days after it, and the hours of Fajr's angle on the date and on the next.
@@ -42,8 +43,8 @@ pub struct RowSuns {
     pub today: DaySun,
     pub tomorrow: DaySun,
     pub after: DaySun,
-    pub fajr: SolarHour,
-    pub fajr_tomorrow: SolarHour,
+    pub fajr: Option<i32>,
+    pub fajr_tomorrow: Option<i32>,
 }
 
 // The sun's courses on a date and on the two days after it, and what the next one is made from.
@@ -81,12 +82,8 @@ fn julian_day_after(date: Date, tomorrow: Date, julian_day: f64) -> f64
     requires { (tomorrow ≡ tomorrow_of date) × (julian_day ≡ date_julian_day_of date) }
     ensures { result ≡ date_julian_day_of (tomorrow_of date) }
 {
-    if date.day != tomorrow.day {
-        if date.year >= ROLLS_FROM {
-            if date.year <= ROLLS_TO {
-                return julian_day + 1.0;
-            }
-        }
+    if date.day != tomorrow.day && ROLLS_FROM <= date.year && date.year <= ROLLS_TO {
+        return julian_day + 1.0;
     }
     date_julian_day(tomorrow)
 }
@@ -127,124 +124,112 @@ impl Courses {
                 at_third,
             ),
             third: third_day,
-            at_second: at_second,
-            at_third: at_third,
+            at_second,
+            at_third,
         }
     }
 }
 
 impl DaySun {
+    #[tactic(auto, unfolding(crate::specs::RowSuns::day_sun_of))]
     pub fn new(rules: Rules, course: Course) -> DaySun
         ensures { result ≡ day_sun_of rules.midnight course }
     {
-        let midnight = rules.midnight;
         DaySun {
-            course: course,
-            times: SolarTime::new(midnight, hour_numbers(course)),
+            course,
+            times: SolarTime::new(rules.midnight, hour_numbers(course)),
         }
     }
 }
 
 impl RowSuns {
     // The first row's.
+    #[tactic(auto, unfolding(crate::specs::RowSuns::row_suns_of))]
     pub fn new(date: Date, setting: Setting) -> RowSuns
         ensures { result ≡ row_suns_of date setting }
     {
-        let rules = setting.rules;
         let sines = TwilightSines::new(setting.parameters);
         let courses = Courses::new(date, setting.coordinates);
-        let today = courses.today;
-        let tomorrow = courses.tomorrow;
-        let after = courses.after;
-        let at_second = courses.at_second;
-        let at_third = courses.at_third;
         RowSuns {
-            date: date,
+            date,
             third: courses.third,
-            sines: sines,
-            at_second: at_second,
-            at_third: at_third,
-            today: DaySun::new(rules, today),
-            tomorrow: DaySun::new(rules, tomorrow),
-            after: DaySun::new(rules, after),
-            fajr: sines.fajr_hour(setting, today),
-            fajr_tomorrow: sines.fajr_hour(setting, tomorrow),
+            sines,
+            at_second: courses.at_second,
+            at_third: courses.at_third,
+            today: DaySun::new(setting.rules, courses.today),
+            tomorrow: DaySun::new(setting.rules, courses.tomorrow),
+            after: DaySun::new(setting.rules, courses.after),
+            fajr: sines.fajr_hour(setting, courses.today),
+            fajr_tomorrow: sines.fajr_hour(setting, courses.tomorrow),
         }
     }
 
     // The next row's, in the same setting, for the years of an order: there each Julian Day is one more.
+    #[tactic(auto, unfolding(crate::specs::RowSuns::next_row_suns_of, float64::proofs::Floats::dec, float64::proofs::Floats::round, float64::proofs::Floats::of_bits))]
     pub fn next(self, setting: Setting) -> RowSuns
         ensures { result ≡ next_row_suns_of setting self }
     {
-        let date = self.date;
-        let third = self.third;
-        let sines = self.sines;
-        let at_second = self.at_second;
-        let at_third = self.at_third;
-        let today = self.tomorrow;
-        let tomorrow = self.after;
-        let fajr = self.fajr_tomorrow;
-        let course = tomorrow.course;
-        let fourth = third + 1.0;
+        let course = self.after.course;
+        let fourth = self.third + 1.0;
         let at_fourth = Equatorial::new(fourth);
-        let sidereal = sidereal_time(third);
-        let after = Course::new(course.observer, sidereal, at_second, at_third, at_fourth);
+        let sidereal = sidereal_time(self.third);
+        let after = Course::new(
+            course.observer,
+            sidereal,
+            self.at_second,
+            self.at_third,
+            at_fourth,
+        );
         RowSuns {
-            date: date.tomorrow(),
+            date: self.date.tomorrow(),
             third: fourth,
-            sines: sines,
-            at_second: at_third,
+            sines: self.sines,
+            at_second: self.at_third,
             at_third: at_fourth,
-            today: today,
-            tomorrow: tomorrow,
+            today: self.tomorrow,
+            tomorrow: self.after,
             after: DaySun::new(setting.rules, after),
-            fajr: fajr,
-            fajr_tomorrow: sines.fajr_hour(setting, course),
+            fajr: self.fajr_tomorrow,
+            fajr_tomorrow: self.sines.fajr_hour(setting, course),
         }
     }
 
-    fn suns(self) -> Suns
+    fn suns(self) -> Result<ThreeSuns, Refusal>
         ensures { result ≡ three_suns_of self }
     {
-        let today = self.today;
-        let tomorrow = self.tomorrow;
-        let after = self.after;
-        let first = today.times;
-        let second = tomorrow.times;
-        let third = after.times;
-        Suns::new(first, second, third)
+        ThreeSuns::new(self.today.times, self.tomorrow.times, self.after.times)
     }
 
     // The row's Fajr by itself: of the row's own hours neither Asr's nor Isha's is worked.
-    pub fn fajr(self, setting: Setting) -> FajrAlone
+    #[tactic(auto, unfolding(crate::specs::RowSuns::row_suns_fajr_of))]
+    pub fn fajr(self, setting: Setting) -> Option<i64>
         ensures { result ≡ row_suns_fajr_of setting self }
     {
-        let hour = self.fajr;
-        let season = setting.season();
-        self.suns()
-            .fajr(self.date, season, setting.parameters, hour)
+        fajr_alone(
+            self.suns(),
+            self.date,
+            setting.season(),
+            setting.parameters,
+            self.fajr,
+        )
     }
 
     // What the row's times are worked from.
+    #[tactic(auto, unfolding(crate::specs::RowSuns::row_suns_hours_of))]
     fn hours(self, setting: Setting) -> RowHours
         ensures { result ≡ row_suns_hours_of setting self }
     {
-        let sines = self.sines;
-        let today = self.today;
-        let course = today.course;
-        let fajr = self.fajr;
-        let fajr_tomorrow = self.fajr_tomorrow;
         RowHours {
             suns: self.suns(),
-            fajr: fajr,
-            asr: asr_hour(setting, course),
-            isha: sines.isha_hour(setting, course),
-            fajr_tomorrow: fajr_tomorrow,
+            fajr: self.fajr,
+            asr: asr_hour(setting, self.today.course),
+            isha: self.sines.isha_hour(setting, self.today.course),
+            fajr_tomorrow: self.fajr_tomorrow,
         }
     }
 
     // The row's times in seconds from 0h of its date, or its refusal.
-    pub fn since_midnight(self, setting: Setting) -> Worked
+    pub fn since_midnight(self, setting: Setting) -> Result<PrayerTimes, Refusal>
         ensures { (result ≡ row_suns_since_of setting self) × NearIn result }
     {
         self.hours(setting)
@@ -252,7 +237,7 @@ impl RowSuns {
     }
 
     // The row's times, or its refusal.
-    pub fn work(self, setting: Setting) -> Worked
+    pub fn work(self, setting: Setting) -> Result<PrayerTimes, Refusal>
         ensures { result ≡ row_suns_worked_of setting self }
     {
         self.hours(setting)

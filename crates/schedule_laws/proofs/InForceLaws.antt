@@ -1,5 +1,6 @@
 -- The prayer in force if no time is earlier and the instant is not after: a prayer that is due under the second is due under the first.
 -- Assumes nothing.
+use Rattle.std.specs.Prelude.{Option}
 use Rattle.prelude.proofs.Logic.{◌≡◌, ap, Bool, true, inl, inr, ⊎_elim, ℕ, zero, suc, ◌+◌, ◌*◌, ◌≤◌, ◌<◌, arith, eqb, eqb→eq, lit≤}
 use Rattle.prelude.proofs.Logic.{cases, arms, eq-eqb, ℤ, pos, negsuc, ◌-ℤ◌, ◌*ℤ◌, lt_z, eqb-true}
 use Rattle.integers.proofs.Integers.{P, N, same, sum, difference, times, le_yes, lt_yes, lt_no, to_le, ◌≼◌}
@@ -7,7 +8,7 @@ use Rattle.prelude.proofs.Computed.{at}
 use Rattle.models.specs.declared.prayer.Prayer.{Prayer}
 use Rattle.models.specs.declared.prayer.Prayer.TheVariants.{Fajr, Sunrise, Dhuhr, Asr, Maghrib, Isha, Qiyam, FajrTomorrow}
 use Rattle.models.specs.Numbers.{prayer_number_of, prayer_of}
-use Rattle.schedule.specs.declared.{in_force.Instant.Instant, prayer_times.PrayerTimes.PrayerTimes, in_force.Current.Current}
+use Rattle.schedule.specs.declared.{in_force.Instant.Instant, prayer_times.PrayerTimes.PrayerTimes}
 use Rattle.schedule.specs.InForce.{time_of, in_second, nanoseconds_of, NotAfter, ahead_of, last_of, current_time_of, current_number_of}
 use Rattle.schedule_laws.specs.Later.{NoneEarlier, NotAfterByNanoseconds}
 
@@ -78,7 +79,7 @@ unfolding last_of current_number_of
 first_places t i zero h = lit≤ tt
 first_places t i (suc n) h =
     let before = first_places t i n (omega arith) in
-    arms (λ (x : Current). current_number_of x ≤ suc n) (eqb (ahead_of (time_of t (prayer_of (suc n))) i) 0) (λ e. omega (arith, place_is n h))
+    arms (λ (x : Option Prayer). current_number_of x ≤ suc n) (eqb (ahead_of (time_of t (prayer_of (suc n))) i) 0) (λ e. omega (arith, place_is n h))
     (λ e. omega arith)
 
 module _ (t u : PrayerTimes) (i j : Instant) (h : NoneEarlier t u) (k : nanoseconds_of j ≼ nanoseconds_of i) where

@@ -1,4 +1,6 @@
 -- What a school's later minutes do to a day: the statement of specs/Later. Assumes nothing.
+use Rattle.std.specs.Prelude.{Err, Ok, Result}
+use Rattle.schedule.specs.declared.hours.ThreeSuns.{ThreeSuns}
 use Rattle.prelude.proofs.Logic.{◌≡◌, sym, ap, subst, ℕ, ◌^◌, ◌<◌, arith}
 use Rattle.integers.proofs.Integers.{Near, ◌≼◌, le_yes}
 use Rattle.calendar.specs.declared.dates.Date.{Date}
@@ -6,10 +8,8 @@ use Rattle.models.specs.declared.{adjustments.TimeAdjustment.TimeAdjustment, par
 use Rattle.models.specs.declared.{prayer.Prayer.Prayer, rules.Midnight.Midnight}
 use Rattle.refusals.specs.declared.Refusal.{Refusal}
 use Rattle.models.specs.Settings.{time_adjustments_of}
-use Rattle.schedule.specs.declared.{hours.Suns.Suns, hours.RowHours.RowHours, hours.RowNumbers.RowNumbers}
+use Rattle.schedule.specs.declared.{hours.RowHours.RowHours, hours.RowNumbers.RowNumbers}
 use Rattle.schedule.specs.declared.{prayer_times.PrayerTimes.PrayerTimes, in_force.Instant.Instant}
-use Rattle.schedule.specs.declared.hours.Suns.TheVariants as suns
-use Rattle.schedule.specs.declared.prayer_times.Worked.TheVariants.{Times, Refused}
 use Rattle.schedule.specs.InForce.{in_second}
 use Rattle.schedule.proofs.Schedule.{hours_of, NotAfter, numbers_of, started_in, since_from, since_of, season_of, setting_of, worked_of}
 use Rattle.schedule_laws.specs.Later.{with_minutes, LaterMinutes, NoneEarlier, ExactlyLater, Moved, LaterMinutesMoveTheDay}
@@ -18,11 +18,11 @@ use Rattle.schedule_laws.proofs.SunSpans.{SunHour, Row, hours}
 use Rattle.schedule_laws.proofs.{Moves.exactly, Moves.none-earlier, InForceLaws.to-nanoseconds, InForceLaws.in_force_no_later}
 
 -- a day is either refused or worked
-never : (r : Refusal) (t : PrayerTimes) → Refused r ≡ Times t → ⊥
+never : (r : Refusal) (t : PrayerTimes) → Err r ≡ Ok t → ⊥
 never r t e = let z : ◌≡◌ {A = ℕ} 0 1 = cc in omega arith
 
 -- ---- the day, refused or worked
-pub refused_alike : (p q : Parameters) (x : Refusal) → Moved p q (Refused x) (Refused x)
+pub refused_alike : (p q : Parameters) (x : Refusal) → Moved p q (Err x) (Err x)
 refused_alike p q x =
     record {
       refused = λ r e. e;
@@ -32,16 +32,16 @@ refused_alike p q x =
       in_force = λ t u e f. absurd (never x t e);
     }
 
-worked_alike : (p q : Parameters) (x y : PrayerTimes) → NoneEarlier x y → ExactlyLater p q x y → Moved p q (Times x) (Times y)
+worked_alike : (p q : Parameters) (x y : PrayerTimes) → NoneEarlier x y → ExactlyLater p q x y → Moved p q (Ok x) (Ok y)
 worked_alike p q x y none exact =
     record {
-      refused = λ (r : Refusal) (e : Times x ≡ Refused r). absurd (never r x (sym e));
-      refused_too = λ (r : Refusal) (e : Times y ≡ Refused r). absurd (never r y (sym e));
-      none_earlier = λ (t u : PrayerTimes) (e : Times x ≡ Times t) (f : Times y ≡ Times u).
+      refused = λ (r : Refusal) (e : Ok x ≡ Err r). absurd (never r x (sym e));
+      refused_too = λ (r : Refusal) (e : Ok y ≡ Err r). absurd (never r y (sym e));
+      none_earlier = λ (t u : PrayerTimes) (e : Ok x ≡ Ok t) (f : Ok y ≡ Ok u).
           let a : x ≡ t = cc in let b : y ≡ u = cc in rw (← a, ← b) none;
-      exactly_later = λ (t u : PrayerTimes) (e : Times x ≡ Times t) (f : Times y ≡ Times u).
+      exactly_later = λ (t u : PrayerTimes) (e : Ok x ≡ Ok t) (f : Ok y ≡ Ok u).
           let a : x ≡ t = cc in let b : y ≡ u = cc in rw (← a, ← b) exact;
-      in_force = λ (t u : PrayerTimes) (e : Times x ≡ Times t) (f : Times y ≡ Times u) (i j : Instant) (h : j.nanoseconds < in_second)
+      in_force = λ (t u : PrayerTimes) (e : Ok x ≡ Ok t) (f : Ok y ≡ Ok u) (i j : Instant) (h : j.nanoseconds < in_second)
           (l : NotAfter j i).
           let a : x ≡ t = cc in let b : y ≡ u = cc in in_force_no_later t u i j (rw (← a, ← b) none) (to-nanoseconds j i h l);
     }
@@ -51,12 +51,12 @@ module _ (p : Parameters) (minutes : TimeAdjustment)
     (held : (prayer : Prayer) → Near (2 ^ 32) (time_adjustments_of p prayer))
     (held_q : (prayer : Prayer) → Near (2 ^ 32) (time_adjustments_of (with_minutes p minutes) prayer))
     (season : Season) (date : Date) where
-  by-suns : (s : Suns) (h : RowHours) → Row s → SunHour h.fajr_tomorrow
+  by-suns : (s : Result ThreeSuns Refusal) (h : RowHours) → Row s → SunHour h.fajr_tomorrow
       → Moved p (with_minutes p minutes) (started_in date (since_from s h date season p))
       (started_in date (since_from s h date season (with_minutes p minutes)))
   unfolding started_in since_from
-  by-suns (suns.Refused r) h x k = refused_alike p (with_minutes p minutes) r
-  by-suns (suns.Whole three) h x k =
+  by-suns (Err r) h x k = refused_alike p (with_minutes p minutes) r
+  by-suns (Ok three) h x k =
       worked_alike p (with_minutes p minutes) _ _ (none-earlier p minutes season date three h more held held_q x k)
       (exactly p minutes season date three h)
 

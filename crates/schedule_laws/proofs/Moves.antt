@@ -1,5 +1,6 @@
 -- If a school's minutes are later and nothing else changes, each time is later by exactly their seconds, and none of the nine is earlier.
 -- Assumes nothing.
+use Rattle.std.specs.Prelude.{Option}
 use Rattle.prelude.proofs.Logic.{◌≡◌, sym, ap, subst, ◌∙◌, ◌^◌, arith, lit≤, ℤ, pos, ◌+ℤ◌, ◌-ℤ◌, ◌*ℤ◌, +ℤ_assoc}
 use Rattle.integers.proofs.Integers.{Near, ◌≼◌, same, sum, difference, times, wider, natural_between, sum_between, difference_between}
 use Rattle.integers.proofs.Integers.{to_le}
@@ -12,7 +13,7 @@ use Rattle.whole_minutes.specs.Times.{rounded_of, adjusted_of}
 use Rattle.whole_minutes.proofs.TimesLaws.{rounded_adjusted, rounded_mono, adjusted_between}
 use Rattle.night_portions.specs.Portions.{middle_of, last_third_of}
 use Rattle.night_portions.proofs.{Steady.Small, PortionsLaws.middle_later, PortionsLaws.last_third_later}
-use Rattle.solar.specs.declared.{setting.SolarHour.SolarHour, times.SolarTime.SolarTime}
+use Rattle.solar.specs.declared.{times.SolarTime.SolarTime}
 use Rattle.schedule.specs.declared.{hours.ThreeSuns.ThreeSuns, hours.RowHours.RowHours, prayer_times.PrayerTimes.PrayerTimes}
 use Rattle.schedule.proofs.Schedule.{start_of, final_of, fajr_tomorrow_of, middle_of_the_night_of, qiyam_of, from_midnight_of, started_of}
 use Rattle.schedule.proofs.Schedule.{night_of, next_day_of, or_of, before_sunrise_of, short_near, unadjusted_fajr_of, after_sunset_of, isha_bound_of}
@@ -62,7 +63,7 @@ module _ (p : Parameters) (held : (prayer : Prayer) → Near (2 ^ 32) (time_adju
   maghrib-near : {x : ℤ} → Days 1 2 x → Near (2 ^ 39) (final_of p Maghrib x)
   maghrib-near h = wider (final_between p Maghrib h (held Maghrib)) (lit≤ tt) (lit≤ tt)
 
-  tomorrow-near : (season : Season) (date : Date) (tomorrow after : SolarTime) (hour : SolarHour) → Sun tomorrow → Sun after → SunHour hour
+  tomorrow-near : (season : Season) (date : Date) (tomorrow after : SolarTime) (hour : Option ℤ) → Sun tomorrow → Sun after → SunHour hour
       → Near (2 ^ 39) (fajr_tomorrow_of p season date tomorrow after hour)
   unfolding fajr_tomorrow_of
   tomorrow-near season date tomorrow after hour a b h =
@@ -94,7 +95,7 @@ module _ (p : Parameters) (minutes : TimeAdjustment) where
   unfolding final_of
   final-moved prayer x = rounded_again p.rounding x (time_adjustments_of p prayer) (time_adjustments_of q prayer)
 
-  tomorrow-moved : (season : Season) (date : Date) (tomorrow after : SolarTime) (hour : SolarHour)
+  tomorrow-moved : (season : Season) (date : Date) (tomorrow after : SolarTime) (hour : Option ℤ)
       → fajr_tomorrow_of q season date tomorrow after hour ≡ fajr_tomorrow_of p season date tomorrow after hour +ℤ later_by p q Fajr
   unfolding fajr_tomorrow_of unadjusted_fajr_of before_sunrise_of
   tomorrow-moved season date tomorrow after hour =

@@ -6,7 +6,7 @@ use Rattle.models.specs.declared.{adjustments.TimeAdjustment.TimeAdjustment, met
 use Rattle.models.specs.declared.{prayer.Prayer.Prayer, method.Method.TheVariants.Other, prayer.Prayer.TheVariants.FajrTomorrow}
 use Rattle.models.specs.Numbers.{methods, prayers}
 use Rattle.models.proofs.Models.{method_number_of, method_of, prayer_number_of, prayer_of, preset, preset_of, minutes_for, time_adjustments_of}
-use Rattle.models.proofs.NumbersLaws.{method_back, prayer_back}
+use Rattle.models.specs.NumbersLaws.{method_back, prayer_back}
 use Rattle.order.specs.Accepted.{ParametersInOrder}
 
 -- a test that passes for each element of a list passes for the one at k

@@ -1,4 +1,6 @@
 -- Every time is near its date, and its days print as one digit: the statements of specs/Range. Assumes nothing.
+use Rattle.std.specs.Prelude.{Err, Ok, Option, Result}
+use Rattle.refusals.specs.declared.Refusal.{Refusal}
 use Rattle.prelude.proofs.Logic.{◌≡◌, subst, ℕ, ◌-◌, ◌*◌, ◌≤◌, ◌<◌, arith, lit≤, ℤ, pos, negsuc, ◌+ℤ◌, ◌-ℤ◌}
 use Rattle.integers.proofs.Integers.{P, N, Between, Near, floor_quot, same, sum, difference, wider, sum_between, difference_between}
 use Rattle.integers.proofs.Integers.{natural_between, toward_between}
@@ -9,10 +11,9 @@ use Rattle.models.specs.{declared.rounding.Rounding.TheVariants.Nearest, Setting
 use Rattle.whole_minutes.proofs.TimesLaws.{rounded_between, adjusted_between}
 use Rattle.night_portions.specs.Portions.{middle_of, last_third_of}
 use Rattle.night_portions.proofs.PortionsLaws.{middle_inside, last_third_inside}
-use Rattle.solar.specs.declared.{setting.SolarHour.SolarHour, times.SolarTime.SolarTime}
-use Rattle.schedule.specs.declared.{hours.ThreeSuns.ThreeSuns, hours.Suns.Suns, hours.RowHours.RowHours}
-use Rattle.schedule.specs.declared.{prayer_times.PrayerTimes.PrayerTimes, hours.Suns.TheVariants.Whole, hours.Suns.TheVariants.Refused}
-use Rattle.schedule.specs.declared.prayer_times.Worked.TheVariants.{Times}
+use Rattle.solar.specs.declared.{times.SolarTime.SolarTime}
+use Rattle.schedule.specs.declared.{hours.ThreeSuns.ThreeSuns, hours.RowHours.RowHours}
+use Rattle.schedule.specs.declared.{prayer_times.PrayerTimes.PrayerTimes}
 use Rattle.schedule.proofs.Schedule.{hours_of, start_of, final_of, fajr_tomorrow_of, middle_of_the_night_of, qiyam_of, from_midnight_of, started_of}
 use Rattle.schedule.proofs.Schedule.{started_in, since_from, since_of, time_of, Each}
 use Rattle.order.specs.Accepted.{LatitudeInOrder, ParametersInOrder}
@@ -76,7 +77,7 @@ module _ (p : Parameters) (allowed : ParametersInOrder p) (season : Season) (the
   final prayer h = wider (final_between p prayer h (minutes prayer)) (lit≤ tt) (lit≤ tt)
 
   -- the next date's Fajr, from 0h of this date
-  tomorrow : (today next : SolarTime) (hour : SolarHour) → Sun today → Sun next → SunHour hour
+  tomorrow : (today next : SolarTime) (hour : Option ℤ) → Sun today → Sun next → SunHour hour
       → Closer (fajr_tomorrow_of p season date today next hour)
   unfolding fajr_tomorrow_of
   tomorrow today next hour a b h =
@@ -104,11 +105,11 @@ module _ (p : Parameters) (allowed : ParametersInOrder p) (season : Season) (the
         fajr_tomorrow = wider f (lit≤ tt) (lit≤ tt);
       }
 
-  worked : (s : Suns) (h : RowHours) (t : PrayerTimes) → Row s → Hours h → started_in date (since_from s h date season p) ≡ Times t
+  worked : (s : Result ThreeSuns Refusal) (h : RowHours) (t : PrayerTimes) → Row s → Hours h → started_in date (since_from s h date season p) ≡ Ok t
       → AllOfDate date t
   unfolding started_in since_from
-  worked (Refused r) h t x k e = let w : ◌≡◌ {A = ℕ} 0 1 = cc in absurd (omega arith)
-  worked (Whole suns) h t x k e =
+  worked (Err r) h t x k e = let w : ◌≡◌ {A = ℕ} 0 1 = cc in absurd (omega arith)
+  worked (Ok suns) h t x k e =
       let same_times : started_of (start_of date) (from_midnight_of p season date suns h) ≡ t = cc in
       subst (AllOfDate date) same_times (started_close date (from_midnight_of p season date suns h) (nine suns h x k))
 

@@ -1,5 +1,7 @@
 -- How far the sun's times, Fajr and Isha are from 0h of their date, for all values that an order can hold. All bounds are whole days: the
 -- sun's times are from one day before 0h to two days after it. Assumes nothing.
+use Rattle.std.specs.Prelude.{Err, Ok, Option, Result}
+use Rattle.refusals.specs.declared.Refusal.{Refusal}
 use Rattle.prelude.proofs.Logic.{◌≡◌, sym, subst, cond, ℕ, ◌+◌, ◌*◌, ◌≤◌, arith, lit<, lit≤, ℤ, pos, lt_z, cases}
 use lib.Ieee.{Float}
 use Rattle.float64.specs.{Ops.dec, Ranges.Inside}
@@ -16,12 +18,10 @@ use Rattle.night_portions.proofs.BoundsLaws.{Portion, after-half, before-half}
 use Rattle.night_portions.proofs.OrderPortions.{half_portion, seventh_portion, angle_portion}
 use Rattle.ops.specs.Season.{morning_seconds_of, evening_seconds_of}
 use Rattle.ops.proofs.SeasonLaws.{morning-small, evening-small}
-use Rattle.solar.specs.declared.{setting.SolarHour.SolarHour, times.SolarTime.SolarTime, times.SolarDay.SolarDay}
-use Rattle.solar.specs.declared.times.SolarDay.TheVariants as day
+use Rattle.solar.specs.declared.{times.Missing.Missing, times.SolarTime.SolarTime}
 use Rattle.solar.specs.Times.{solar_hour_of, solar_time_of}
 use Rattle.solar.proofs.TimesLaws.{SunOfThreeDays, DayOfThreeDays, hour_range, day_held}
-use Rattle.schedule.specs.declared.{hours.ThreeSuns.ThreeSuns, hours.Suns.Suns, hours.RowHours.RowHours, hours.RowNumbers.RowNumbers}
-use Rattle.schedule.specs.declared.hours.Suns.TheVariants.{Whole, Refused}
+use Rattle.schedule.specs.declared.{hours.ThreeSuns.ThreeSuns, hours.RowHours.RowHours, hours.RowNumbers.RowNumbers}
 use Rattle.schedule.proofs.Schedule.{suns_of, hours_of, night_of, by_season_of, short_is, before_sunrise_of, unadjusted_fajr_of, after_sunset_of}
 use Rattle.schedule.proofs.Schedule.{isha_bound_of, bounded_isha_of, unadjusted_isha_of}
 use Rattle.order.specs.{Ranges.most_angle, Accepted.LatitudeInOrder, Accepted.ParametersInOrder}
@@ -32,7 +32,7 @@ abbrev pub Days : ℕ → ℕ → ℤ → Type 0
 Days a b z = Between (a * 86400) (b * 86400) z
 
 -- ---- the sun's times
-abbrev pub SunHour : SolarHour → Type 0
+abbrev pub SunHour : Option ℤ → Type 0
 SunHour hour = HourBetween 86400 (2 * 86400) hour
 
 sun_hour : (rule : Midnight) (value : Float) → SunHour (solar_hour_of rule value)
@@ -56,16 +56,16 @@ pub record Three (suns : ThreeSuns) : Type 0 where
   pub after : Sun suns.after
 
 -- if the row is not refused
-abbrev pub Row : Suns → Type 0
-Row (Whole suns) = Three suns
-Row (Refused r) = 0 ≤ 0
+abbrev pub Row : Result ThreeSuns Refusal → Type 0
+Row (Ok suns) = Three suns
+Row (Err r) = Unit {0}
 
-row : (a b c : SolarDay) → DayOfThreeDays a → DayOfThreeDays b → DayOfThreeDays c → Row (suns_of a b c)
+row : (a b c : Result SolarTime Missing) → DayOfThreeDays a → DayOfThreeDays b → DayOfThreeDays c → Row (suns_of a b c)
 unfolding suns_of
-row (day.Lacks n) b c h k l = lit≤ tt
-row (day.Whole x) (day.Lacks n) c h k l = lit≤ tt
-row (day.Whole x) (day.Whole y) (day.Lacks n) h k l = lit≤ tt
-row (day.Whole x) (day.Whole y) (day.Whole z) h k l = record { today = sun_days x h; tomorrow = sun_days y k; after = sun_days z l }
+row (Err m) b c h k l = tt
+row (Ok x) (Err m) c h k l = tt
+row (Ok x) (Ok y) (Err m) h k l = tt
+row (Ok x) (Ok y) (Ok z) h k l = record { today = sun_days x h; tomorrow = sun_days y k; after = sun_days z l }
 
 pub record Hours (h : RowHours) : Type 0 where
   pub suns : Row h.suns
@@ -106,7 +106,7 @@ portions TwilightAngle fajr isha h k = (angle_portion fajr h.0 h.1, angle_portio
 -- ---- Fajr and Isha, not adjusted yet
 module _ (p : Parameters) (season : Season) (allowed : ParametersInOrder p) (there : LatitudeInOrder season.latitude) (date : Date)
     (today next : SolarTime) (sun : Sun today) (sun_next : Sun next)
-    (hour : SolarHour) (placed : SunHour hour) where
+    (hour : Option ℤ) (placed : SunHour hour) where
   abbrev night : ℤ
   night = night_of today next
 

@@ -1,7 +1,7 @@
 -- Two sets of parameters that differ only in a school's own minutes (demand 3): what the second's larger sums do to the days that are
 -- refused, to the nine times and to the prayer in force. This holds for all hour numbers, both rules at midnight and in the south, every
 -- date and every latitude. Proved in proofs/LaterLaws.
-use Rattle.std.specs.Prelude.{◌≡◌, ◌^◌, ◌≤◌, ◌<◌, true, ℤ, pos, ◌+ℤ◌, ◌-ℤ◌, ◌*ℤ◌}
+use Rattle.std.specs.Prelude.{◌≡◌, ◌^◌, ◌≤◌, ◌<◌, true, ℤ, pos, ◌+ℤ◌, ◌-ℤ◌, ◌*ℤ◌, Err, Ok, Result}
 use Rattle.std.specs.Int.Signed.{le_z}
 use Rattle.integers.specs.Parts.{Near}
 use Rattle.calendar.specs.declared.dates.Date.{Date}
@@ -19,8 +19,6 @@ use Rattle.unit.specs.declared.Coordinates.{Coordinates}
 use Rattle.schedule.specs.declared.hours.RowNumbers.{RowNumbers}
 use Rattle.schedule.specs.declared.in_force.Instant.{Instant}
 use Rattle.schedule.specs.declared.prayer_times.PrayerTimes.{PrayerTimes}
-use Rattle.schedule.specs.declared.prayer_times.Worked.{Worked}
-use Rattle.schedule.specs.declared.prayer_times.Worked.TheVariants.{Times, Refused}
 use Rattle.schedule.specs.Hours.{hours_of}
 use Rattle.schedule.specs.InForce.{in_second, nanoseconds_of, NotAfter, current_time_of, current_number_of}
 use Rattle.schedule.specs.Times.{worked_of, worked_at}
@@ -83,15 +81,15 @@ NotAfterByNanoseconds =
     → (NotAfter j i → le_z (nanoseconds_of j) (nanoseconds_of i) ≡ true) × (le_z (nanoseconds_of j) (nanoseconds_of i) ≡ true → NotAfter j i)
 
 -- ---- demand 3 for one day: w is the day under the first parameters, v under the second
-pub record Moved (p q : Parameters) (w v : Worked) : Type 0 where
+pub record Moved (p q : Parameters) (w v : Result PrayerTimes Refusal) : Type 0 where
   -- the same days are refused, with the same number and place
-  pub refused : (r : Refusal) → w ≡ Refused r → v ≡ Refused r
-  pub refused_too : (r : Refusal) → v ≡ Refused r → w ≡ Refused r
+  pub refused : (r : Refusal) → w ≡ Err r → v ≡ Err r
+  pub refused_too : (r : Refusal) → v ≡ Err r → w ≡ Err r
   -- on every other day
-  pub none_earlier : (t u : PrayerTimes) → w ≡ Times t → v ≡ Times u → NoneEarlier t u
-  pub exactly_later : (t u : PrayerTimes) → w ≡ Times t → v ≡ Times u → ExactlyLater p q t u
+  pub none_earlier : (t u : PrayerTimes) → w ≡ Ok t → v ≡ Ok u → NoneEarlier t u
+  pub exactly_later : (t u : PrayerTimes) → w ≡ Ok t → v ≡ Ok u → ExactlyLater p q t u
   -- "the prayer in force .. stands no later in the list of eight .. ("none" standing before Fajr)"
-  pub in_force : (t u : PrayerTimes) → w ≡ Times t → v ≡ Times u → (i j : Instant) → j.nanoseconds < in_second → NotAfter j i
+  pub in_force : (t u : PrayerTimes) → w ≡ Ok t → v ≡ Ok u → (i j : Instant) → j.nanoseconds < in_second → NotAfter j i
       → current_number_of (current_time_of u j) ≤ current_number_of (current_time_of t i)
 
 abbrev pub LaterMinutesMoveTheDay : Type 0

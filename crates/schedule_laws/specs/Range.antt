@@ -1,6 +1,6 @@
 -- Document 01: nine times, "each as signed days from the row's date". Those days have one digit, for all hour numbers, both rules at
 -- midnight and in the south, every date, and all latitudes and parameters that an order can hold. Proved in proofs/RangeLaws.
-use Rattle.std.specs.Prelude.{◌≡◌, ◌*◌, ◌≤◌, ◌<◌, ℤ, ◌-ℤ◌}
+use Rattle.std.specs.Prelude.{◌≡◌, ◌*◌, ◌≤◌, ◌<◌, ℤ, ◌-ℤ◌, Ok}
 use Rattle.integers.specs.Parts.{P, N, Near}
 use Rattle.integers.specs.Quotients.{floor_quot}
 use Rattle.calendar.specs.declared.dates.Date.{Date}
@@ -10,7 +10,6 @@ use Rattle.models.specs.declared.rules.Midnight.{Midnight}
 use Rattle.models.specs.declared.rules.Season.{Season}
 use Rattle.schedule.specs.declared.hours.RowNumbers.{RowNumbers}
 use Rattle.schedule.specs.declared.prayer_times.PrayerTimes.{PrayerTimes}
-use Rattle.schedule.specs.declared.prayer_times.Worked.TheVariants.{Times}
 use Rattle.schedule.specs.Hours.{hours_of}
 use Rattle.schedule.specs.InForce.{time_of}
 use Rattle.schedule.specs.Times.{start_of, worked_of}
@@ -29,7 +28,7 @@ pub record AllOfDate (date : Date) (t : PrayerTimes) : Type 0 where
 abbrev pub TimesLieByTheirDate : Type 0
 TimesLieByTheirDate =
     (rule : Midnight) (n : RowNumbers) (date : Date) (season : Season) (p : Parameters) (t : PrayerTimes)
-    → LatitudeInOrder season.latitude → ParametersInOrder p → worked_of (hours_of rule n) date season p ≡ Times t → AllOfDate date t
+    → LatitudeInOrder season.latitude → ParametersInOrder p → worked_of (hours_of rule n) date season p ≡ Ok t → AllOfDate date t
 
 -- the days that the sheet prints, rounded down, are from -4 to 4
 abbrev pub DaysAreOneDigit : Type 0

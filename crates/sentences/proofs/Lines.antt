@@ -1,10 +1,10 @@
 -- What is true of each line of the two tables, by tests that antt computes over them. A new line needs no new proof. Assumes nothing.
-use Rattle.prelude.proofs.Logic.{◌≡◌, refl, sym, ap, subst, ◌∙◌, Bool, true, false, ◌&&◌, List, [], ◌∷◌, ℕ, zero, suc, ◌+◌, ◌≤◌, ◌<◌}
-use Rattle.prelude.proofs.Logic.{zero-add, add-zero, suc-add, add-suc, arith, T, leb, eqb, leb→le, eqb→eq, length, get_or, take, ltb-true}
+use Rattle.prelude.proofs.Logic.{◌≡◌, refl, sym, subst, ◌∙◌, Bool, true, false, ◌&&◌, List, [], ◌∷◌, ℕ, zero, suc, ◌+◌, ◌≤◌, ◌<◌}
+use Rattle.prelude.proofs.Logic.{zero-add, add-zero, suc-add, add-suc, arith, T, leb, eqb, leb→le, eqb→eq, length, get_or, ltb-true}
 use Rattle.prelude.proofs.Logic.{and_l, and_r}
 use Rattle.text.specs.Text.{ascii, printable}
 use Rattle.sentences.specs.Table.{texts, names, text_of, name_of, known}
-use Rattle.sentences.specs.Rows.{filled, end_of, widest, widest_name}
+use Rattle.sentences.specs.Rows.{widest, widest_name}
 use Rattle.sentences.specs.Guess.{number_in}
 
 is_true : (b : Bool) → T b → b ≡ true
@@ -28,31 +28,26 @@ at : (f : ℕ → List ℕ → Bool) (d : List ℕ) → ((n : ℕ) → T (f n d)
     → T (f n (get_or ts n d))
 at f d e ts t n = subst (λ (m : ℕ). T (f m (get_or ts n d))) (zero-add n) (from f d e ts 0 t n)
 
--- ---- a line is short enough, printable, and ends where the code finds its end
+-- ---- a line is short enough, and printable
 abbrev fine : ℕ → List ℕ → Bool
-fine k t = leb (length t) k && printable t && eqb (end_of (filled widest t) widest) (length t)
+fine k t = leb (length t) k && printable t
 
 pub record Fine (k : ℕ) (t : List ℕ) : Type 0 where
   pub short : length t ≤ k
   pub clean : printable t ≡ true
-  pub ends : end_of (filled widest t) widest ≡ length t
 
 is_fine : (k : ℕ) (t : List ℕ) → T (fine k t) → Fine k t
-is_fine k t h =
-    let both = and_l (leb (length t) k && printable t) (eqb (end_of (filled widest t) widest) (length t)) h in
-    record {
-      short = leb→le (length t) k (and_l (leb (length t) k) (printable t) both);
-      clean = is_true (printable t) (and_r (leb (length t) k) (printable t) both);
-      ends = eqb→eq (end_of (filled widest t) widest) (length t)
-          (and_r (leb (length t) k && printable t) (eqb (end_of (filled widest t) widest) (length t)) h);
-    }
+is_fine k t h = record {
+  short = leb→le (length t) k (and_l (leb (length t) k) (printable t) h);
+  clean = is_true (printable t) (and_r (leb (length t) k) (printable t) h);
+}
 
 pub text_fine : (n : ℕ) → Fine widest (text_of n)
-unfolding texts text_of printable filled end_of
+unfolding texts text_of printable
 text_fine n = is_fine widest (text_of n) (at (λ m t. fine widest t) [] (λ m. tt) texts tt n)
 
 pub name_fine : (tag : ℕ) → Fine widest_name (name_of tag)
-unfolding names name_of printable filled end_of
+unfolding names name_of printable
 name_fine tag = is_fine widest_name (name_of tag) (at (λ m t. fine widest_name t) (ascii " tag") (λ m. tt) names tt tag)
 
 -- ---- each text that is not empty says its own number
@@ -74,16 +69,3 @@ says_both n (b ∷ bs) s h =
 
 pub text_says : (n : ℕ) → known n ≡ true → (number_in (text_of n) ≡ n) × (10 ≤ length (text_of n))
 text_says n k = says_both n (text_of n) (all_say n) (ltb-true 0 (length (text_of n)) k)
-
--- ---- a filled text
-pub filled_length : (k : ℕ) (t : List ℕ) → length (filled k t) ≡ k
-unfolding filled
-filled_length zero t = refl
-filled_length (suc k) [] = ap suc (filled_length k [])
-filled_length (suc k) (b ∷ bs) = ap suc (filled_length k bs)
-
-pub take_filled : (k : ℕ) (t : List ℕ) → length t ≤ k → take (length t) (filled k t) ≡ t
-unfolding filled
-take_filled k [] h = refl
-take_filled zero (b ∷ bs) h = absurd (omega arith)
-take_filled (suc k) (b ∷ bs) h = ap (λ (l : List ℕ). b ∷ l) (take_filled k bs (omega arith))

@@ -1,6 +1,7 @@
 -- This file need not be believed: where the code looks for the number and the place that bytes say, before it compares their whole
 -- sentence.
-use Rattle.std.specs.Prelude.{ℕ, ◌+◌, ◌*◌, ◌-◌, ◌^◌, Bool, cond, ◌&&◌, List, [], ◌∷◌, leb, ltb, get_or}
+use Rattle.std.specs.Prelude.{ℕ, ◌+◌, ◌*◌, ◌-◌, ◌^◌, Bool, cond, ◌&&◌, List, [], ◌∷◌, leb, ltb, get_or, Option, Some, None}
+use Rattle.refusals.specs.declared.Refusal.{Refusal}
 use Rattle.sentences.specs.declared.Meaning.{Meaning}
 use Rattle.sentences.specs.Table.{known}
 use Rattle.sentences.specs.Sentences.{sentence_of, meant, no_sentence, same}
@@ -34,3 +35,12 @@ guessed_of bytes =
     let n = number_in bytes in
     let p = place_in 0 bytes in
     cond (ltb p none && known n && same (sentence_of n p) bytes) (meant n p) no_sentence
+
+-- a place as the code has it: none is None
+abbrev pub place_from : ℕ → Option ℕ
+place_from v = cond (ltb v none) (Some v) None
+
+-- what is returned for the refusal that bytes say
+abbrev pub meaning_from : Option Refusal → Meaning
+meaning_from (Some r) = meant r.number r.place
+meaning_from None = no_sentence

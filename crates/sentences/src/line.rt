@@ -1,50 +1,38 @@
 // A sentence at the front of a line, piece by piece.
-ghost use Rattle.std.specs.Prelude.{◌≡◌, ◌≤◌, length, take};
+ghost use Rattle.std.specs.Prelude.{◌≡◌, true, false, length, MatchOption};
 ghost use Rattle.text.specs.Text.{front_of};
-ghost use Rattle.sentences.specs.Sentences.{ends_in_colon, words_of, sentence_of};
-ghost use Rattle.sentences.specs.Rows.{widest};
+ghost use Rattle.sentences.specs.Table.{known};
+ghost use Rattle.sentences.specs.Sentences.{words_of, sentence_of};
 
-use super::table::{WIDEST, end_of, name_row, text_row};
+use super::table::{name_of, text_of};
 use text::decimal::put_decimal;
 use text::put::put;
 
-// Whether the text ends in a colon. If it does, its place is a tag.
-fn ends_in_colon(row: [u8; WIDEST], end: usize) -> bool
-    requires { end ≤ widest }
-    ensures { result ≡ ends_in_colon (take end row) }
-{
-    if end == 0 {
-        return false;
-    }
-    row[end - 1] == 58
-}
-
-// Writes the words before the place. Returns their length, or 0 for an unknown number.
-fn put_words(line: &mut [u8; 100], number: u32, place: u32) -> usize
-    ensures value { result ≡ length (words_of number place) }
+// Writes the words before the place: the text, and after a colon the name of the tag that the place is. Returns their length, or None for an
+// unknown number.
+fn put_words(line: &mut [u8; 100], number: u32, place: u32) -> Option<usize>
+    ensures value { MatchOption result (known number ≡ false) (λ n. (known number ≡ true) × (n ≡ length (words_of number place))) }
     ensures line_after { line.new ≡ front_of (words_of number place) line.old }
 {
-    let text = text_row(number);
-    let end = end_of(text);
-    put(&mut line[..], 0, &text[..end]);
-    if !ends_in_colon(text, end) {
-        return end;
+    let text = text_of(number);
+    if text.is_empty() {
+        return None;
     }
-    let name = name_row(place);
-    let length = end_of(name);
-    put(&mut line[..], end, &name[..length]);
-    end + length
+    put(&mut line[..], 0, text.as_bytes());
+    if !text.ends_with(':') {
+        return Some(text.len());
+    }
+    let name = name_of(place);
+    put(&mut line[..], text.len(), name.as_bytes());
+    Some(text.len() + name.len())
 }
 
-// Writes the sentence. Returns its length, or 0 for an unknown number.
-pub fn put_sentence(line: &mut [u8; 100], number: u32, place: u32) -> usize
-    ensures value { result ≡ length (sentence_of number place) }
-    ensures line_after { line.new ≡ front_of (sentence_of number place) line.old }
+// Writes the sentence into the line, or returns None for an unknown number.
+pub fn put_sentence<'a>(line: &'a mut [u8; 100], number: u32, place: u32) -> Option<&'a [u8]>
+    ensures { MatchOption result (known number ≡ false) (λ s. (known number ≡ true) × (s.now ≡ sentence_of number place)) }
 {
-    let words = put_words(&mut *line, number, place);
-    if words == 0 {
-        return 0;
-    }
+    let words = put_words(&mut *line, number, place)?;
     put(&mut line[..], words, b" ");
-    words + 1 + put_decimal(&mut line[..], words + 1, place as u64)
+    let digits = put_decimal(&mut line[..], words + 1, u64::from(place));
+    Some(&line[..words + 1 + digits])
 }

@@ -1,5 +1,6 @@
 -- Document 01, "The sheet": what writing a row returns and leaves in the buffer, and the whole text of an order's sheet.
-use Rattle.std.specs.Prelude.{ℕ, zero, suc, ◌+◌, ◌*◌, cond, List, [], ◌++◌, ltb, length}
+use Rattle.schedule.specs.declared.prayer_times.PrayerTimes.{PrayerTimes}
+use Rattle.std.specs.Prelude.{ℕ, zero, suc, ◌+◌, ◌*◌, cond, List, [], ◌++◌, ltb, length, Err, Ok, Result}
 use Rattle.calendar.specs.Answers.{row_date_of}
 use Rattle.calendar.specs.declared.dates.Date.{Date}
 use Rattle.days.specs.Calls.{work_row_of}
@@ -10,12 +11,8 @@ use Rattle.lines.specs.Lines.{columns_of, row_text, full_row, row_room, line_tex
 use Rattle.refusals.specs.declared.Refusal.{Refusal}
 use Rattle.reports.specs.Reports.{report_text}
 use Rattle.order.specs.declared.reading.Order.{Order}
-use Rattle.order.specs.declared.reading.Reading.{Reading}
-use Rattle.order.specs.declared.reading.Reading.TheVariants as reading
 use Rattle.order.specs.Ranges.{most_rows}
 use Rattle.order.specs.Reading.{reading_of, town_of}
-use Rattle.schedule.specs.declared.prayer_times.Worked.{Worked}
-use Rattle.schedule.specs.declared.prayer_times.Worked.TheVariants as worked
 use Rattle.text.specs.Printed.{Printed, printed_of}
 use Rattle.text.specs.Text.{ascii, front_of}
 
@@ -29,10 +26,10 @@ abbrev pub refusing : Refusal → List ℕ → RowCall
 refusing r buffer = record { answer = r; buffer = buffer }
 
 -- "a full row has 119 bytes with its newline, at the front of the row buffer; the bytes after them stay"
-unfoldable pub worked_call_of : Ramadan → Date → Worked → List ℕ → RowCall
-worked_call_of ramadan date (worked.Times t) buffer =
+unfoldable pub worked_call_of : Ramadan → Date → Result PrayerTimes Refusal → List ℕ → RowCall
+worked_call_of ramadan date (Ok t) buffer =
     record { answer = no_refusal; buffer = front_of (row_text date (columns_of ramadan t)) buffer }
-worked_call_of ramadan date (worked.Refused r) buffer = refusing r buffer
+worked_call_of ramadan date (Err r) buffer = refusing r buffer
 
 -- for an order that is read. Request 12: a buffer "of 119 to 130" bytes is 9 "once the order is accepted with tag 20, before the row"
 unfoldable pub read_call_of : Order → ℕ → List ℕ → RowCall
@@ -40,9 +37,9 @@ read_call_of o row buffer =
     cond (ltb (length buffer) (row_room o.ramadan)) (refusing (refusal buffer_short 0) buffer)
     (worked_call_of o.ramadan (row_date_of o.date row) (work_row_of o row) buffer)
 
-abbrev call_in : Reading → ℕ → List ℕ → RowCall
-call_in (reading.Read o) row buffer = read_call_of o row buffer
-call_in (reading.Refused r) row buffer = refusing r buffer
+abbrev call_in : Result Order Refusal → ℕ → List ℕ → RowCall
+call_in (Ok o) row buffer = read_call_of o row buffer
+call_in (Err r) row buffer = refusing r buffer
 
 -- 9 is "row buffer under 119 bytes"; "buffer and instant are checked before anything else in their calls"
 unfoldable pub row_call_of : List ℕ → ℕ → List ℕ → RowCall

@@ -1,73 +1,44 @@
 // A row's line at the front of a lent buffer. A refused call changes no byte of it.
-ghost use Rattle.std.specs.Prelude.{◌≡◌, ◌≤◌, length};
-ghost use Rattle.lines.specs.Lines.{row_room};
-ghost use Rattle.sheets.specs.Rows.{worked_call_of, read_call_of, row_call_of};
-ghost use Rattle.days.specs.Calls.{work_row_of};
-ghost use Rattle.calendar.specs.Answers.{row_date_of};
-ghost use Rattle.schedule.specs.Each.{NearIn};
-ghost use Rattle.schedule.specs.Times.{started_in};
+ghost use Rattle.std.specs.Prelude.{◌≡◌, MatchResult};
+ghost use Rattle.refusals.specs.Refusals.{no_refusal};
+ghost use Rattle.sheets.specs.Rows.{row_call_of};
 
-use calendar::dates::Date;
 use days::day::{lacks_row, since_midnight};
-use hijri::ramadan::Ramadan;
 use lines::row::{ROW_BYTES, put_row, row_bytes};
-use order::reading::{Order, Reading, read};
+use order::reading::read;
 use refusals::{BUFFER_SHORT, Refusal};
-use schedule::prayer_times::Worked;
 
-// Returns number 0 if the row is written. Its times are in seconds from 0h of the date.
-fn write_worked(ramadan: Ramadan, date: Date, worked: Worked, buffer: &mut [u8]) -> Refusal
-    requires { (row_room ramadan ≤ length buffer.old) × NearIn worked }
-    ensures value { result ≡ (worked_call_of ramadan date (started_in date worked) buffer.old).answer }
-    ensures buffer_after { buffer.new ≡ (worked_call_of ramadan date (started_in date worked) buffer.old).buffer }
+// Refuses a buffer that is shorter than a full row without imsak. This is checked first. A row of a Ramadan sheet is longer: its bytes are
+// asked for before the row. An order that lacks the row gives 5 with the rows' tag.
+fn written(order: &[u8], row: u32, buffer: &mut [u8]) -> Result<(), Refusal>
+    ensures value { MatchResult result (λ _. no_refusal ≡ (row_call_of order.now row buffer.old).answer)
+        (λ r. r ≡ (row_call_of order.now row buffer.old).answer) }
+    ensures buffer_after { buffer.new ≡ (row_call_of order.now row buffer.old).buffer }
 {
-    match worked {
-        Worked::Times(times) => {
-            put_row(&mut buffer[..], 0, ramadan, date, times);
-            Refusal::none()
-        }
-        Worked::Refused(refusal) => refusal,
+    if buffer.len() < ROW_BYTES {
+        return Err(Refusal::new(BUFFER_SHORT, 0));
     }
-}
-
-// Works the row and writes it. Returns 5 with the rows' tag if the order lacks it.
-fn work_and_write(order: Order, row: u32, buffer: &mut [u8]) -> Refusal
-    requires { row_room order.ramadan ≤ length buffer.old }
-    ensures value { result ≡ (worked_call_of order.ramadan (row_date_of order.date row) (work_row_of order row) buffer.old).answer }
-    ensures buffer_after { buffer.new ≡ (worked_call_of order.ramadan (row_date_of order.date row) (work_row_of order row)
-        buffer.old).buffer }
-{
-    if row < order.rows {
-        let first = order.date;
-        let date = first.row(row);
-        let worked = since_midnight(order, date);
-        return write_worked(order.ramadan, date, worked, &mut buffer[..]);
-    }
-    lacks_row()
-}
-
-// Returns 9 if the buffer is shorter than a row of this order: a row of a Ramadan sheet is longer. This is checked before the row.
-fn write_read(order: Order, row: u32, buffer: &mut [u8]) -> Refusal
-    ensures value { result ≡ (read_call_of order row buffer.old).answer }
-    ensures buffer_after { buffer.new ≡ (read_call_of order row buffer.old).buffer }
-{
+    let order = read(order)?;
     let bytes = row_bytes(order.ramadan);
     if buffer.len() < bytes {
-        return Refusal::new(BUFFER_SHORT, 0);
+        return Err(Refusal::new(BUFFER_SHORT, 0));
     }
-    work_and_write(order, row, &mut buffer[..])
+    if row >= order.rows {
+        return Err(lacks_row());
+    }
+    let date = order.date.row(row);
+    let times = since_midnight(order, date)?;
+    put_row(buffer, 0, order.ramadan, date, times);
+    Ok(())
 }
 
-// Returns 9 if the buffer is shorter than a full row without imsak. This is checked first.
+// Returns number 0 if the row is written, as C is told it.
 pub fn write_row(order: &[u8], row: u32, buffer: &mut [u8]) -> Refusal
     ensures value { result ≡ (row_call_of order.now row buffer.old).answer }
     ensures buffer_after { buffer.new ≡ (row_call_of order.now row buffer.old).buffer }
 {
-    if buffer.len() < ROW_BYTES {
-        return Refusal::new(BUFFER_SHORT, 0);
-    }
-    match read(order) {
-        Reading::Read(order) => write_read(order, row, &mut buffer[..]),
-        Reading::Refused(refusal) => refusal,
+    match written(order, row, buffer) {
+        Ok(()) => Refusal::none(),
+        Err(refusal) => refusal,
     }
 }

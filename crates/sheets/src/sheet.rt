@@ -12,8 +12,9 @@ use fields::tags::LONGEST_TOWN;
 use hijri::ramadan::Ramadan;
 use lines::refused::{put_refused_day, put_refused_order};
 use lines::row::{ROW_BYTES, put_row};
-use order::reading::{MOST_ROWS, Order, Reading, read, town};
-use schedule::prayer_times::Worked;
+use order::reading::{MOST_ROWS, Order, read, town};
+use refusals::Refusal;
+use schedule::prayer_times::PrayerTimes;
 use schedule::rolling::RowSuns;
 use text::put::put;
 
@@ -28,13 +29,19 @@ pub const SHEET_BYTES: usize = LONGEST_TOWN as usize
     + ROW_BYTES * MOST_ROWS as usize;
 
 // Writes a row's line, or the line of its refusal. Returns its length. The times are in seconds from 0h of the date.
-fn put_line(buffer: &mut [u8], at: usize, ramadan: Ramadan, date: Date, worked: Worked) -> usize
+fn put_line(
+    buffer: &mut [u8],
+    at: usize,
+    ramadan: Ramadan,
+    date: Date,
+    worked: Result<PrayerTimes, Refusal>,
+) -> usize
     ensures value { result ≡ length (line_since ramadan date worked) }
     ensures buffer_after { buffer.new ≡ put_of buffer.old at (line_since ramadan date worked) }
 {
     match worked {
-        Worked::Times(times) => put_row(&mut buffer[..], at, ramadan, date, times),
-        Worked::Refused(refusal) => put_refused_day(&mut buffer[..], at, date, refusal),
+        Ok(times) => put_row(buffer, at, ramadan, date, times),
+        Err(refusal) => put_refused_day(buffer, at, date, refusal),
     }
 }
 
@@ -44,14 +51,14 @@ fn put_header(buffer: &mut [u8], at: usize, ramadan: Ramadan) -> usize
 {
     if ramadan.set {
         put(
-            &mut buffer[..],
+            buffer,
             at,
             b"\ndate imsak fajr sunrise dhuhr asr maghrib isha middle qiyam tomorrow\n",
         );
         return RAMADAN_HEADER_BYTES;
     }
     put(
-        &mut buffer[..],
+        buffer,
         at,
         b"\ndate fajr sunrise dhuhr asr maghrib isha middle qiyam tomorrow\n",
     );
@@ -65,8 +72,8 @@ fn put_head(buffer: &mut [u8], ramadan: Ramadan, town: &[u8]) -> usize
     ensures buffer_after { buffer.new ≡ front_of (head_text ramadan town.now) buffer.old }
 {
     let end = town.len();
-    put(&mut buffer[..], 0, town);
-    end + put_header(&mut buffer[..], end, ramadan)
+    put(buffer, 0, town);
+    end + put_header(buffer, end, ramadan)
 }
 
 // Writes the lines of all rows from `at` on, and returns where they end. Each row uses what the row before it has worked.
@@ -75,20 +82,16 @@ fn put_rows(buffer: &mut [u8], at: usize, order: Order) -> usize
     ensures value { result ≡ at + length (lines_text order order.rows) }
     ensures buffer_after { buffer.new ≡ put_of buffer.old at (lines_text order order.rows) }
 {
-    let setting = order.setting;
-    let ramadan = order.ramadan;
-    let mut suns = RowSuns::new(order.date, setting);
-    let mut row = 0;
+    let mut suns = RowSuns::new(order.date, order.setting);
     let mut end = at;
-    loop {
-        let worked = suns.since_midnight(setting);
-        end = end + put_line(&mut buffer[..], end, ramadan, suns.date, worked);
-        row = row + 1;
-        if row >= order.rows {
-            return end;
+    for row in 0..order.rows {
+        if row > 0 {
+            suns = suns.next(order.setting);
         }
-        suns = suns.next(setting);
+        let worked = suns.since_midnight(order.setting);
+        end += put_line(buffer, end, order.ramadan, suns.date, worked);
     }
+    end
 }
 
 fn put_accepted(buffer: &mut [u8], town: &[u8], order: Order) -> usize
@@ -96,8 +99,8 @@ fn put_accepted(buffer: &mut [u8], town: &[u8], order: Order) -> usize
     ensures value { result ≡ length (accepted_text town.now order) }
     ensures buffer_after { buffer.new ≡ front_of (accepted_text town.now order) buffer.old }
 {
-    let head = put_head(&mut buffer[..], order.ramadan, town);
-    put_rows(&mut buffer[..], head, order)
+    let head = put_head(buffer, order.ramadan, town);
+    put_rows(buffer, head, order)
 }
 
 // Returns the length of the text. If the buffer is shorter than SHEET_BYTES, the longest text, it stays as it is and 0 is returned.
@@ -111,7 +114,7 @@ pub fn write_sheet(order: &[u8], buffer: &mut [u8]) -> usize
     let reading = read(order);
     let name = town(order, reading);
     match reading {
-        Reading::Read(record) => put_accepted(&mut buffer[..], name, record),
-        Reading::Refused(refusal) => put_refused_order(&mut buffer[..], 0, refusal),
+        Ok(record) => put_accepted(buffer, name, record),
+        Err(refusal) => put_refused_order(buffer, 0, refusal),
     }
 }

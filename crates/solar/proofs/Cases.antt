@@ -1,10 +1,10 @@
 -- The arithmetic of `hour` and `next_midnight` on the numbers that the machine reads, and their times. Assumes nothing.
+use Rattle.std.specs.Prelude.{None, Some}
 use Rattle.prelude.proofs.Logic.{◌≡◌, sym, ap, subst, ◌∙◌, ℕ, ◌+◌, ◌*◌, ◌≤◌, ◌<◌, arith, ℤ, pos, negsuc, ◌-ℤ◌, lt-ltb, le-ltb, w32, SFits}
 use Rattle.prelude.proofs.Logic.{to_z, of_z}
 use Rattle.integers.proofs.Integers.{same, sum, difference, fits, read}
 use Rattle.solar.specs.Setting.{hour_of}
 use Rattle.solar.specs.PastMidnight.{next_midnight_of}
-use Rattle.solar.specs.declared.setting.SolarHour.TheVariants.{Some, Nothing}
 use Rattle.solar.specs.declared.setting.Placed.{Placed}
 
 -- the second n less a day
@@ -31,7 +31,7 @@ module _ (p : Placed) (minute : ℕ) where
       let e : p.ahead * 86400 + (p.hour + 1) * 3600 ≡ p.ahead * 86400 + (p.hour + 1) * 3600 + 0 * 60 = omega arith in
       simp (le-ltb minute 60 h, lt-ltb (p.hour + 1) 24 (omega arith)) (ap (λ (n : ℕ). Some (pos n -ℤ pos 86400)) e)
 
-  pub no-hour : 60 ≤ minute → 23 ≤ p.hour → Nothing ≡ hour_of p minute
+  pub no-hour : 60 ≤ minute → 23 ≤ p.hour → None ≡ hour_of p minute
   unfolding hour_of
   no-hour h k = simp (le-ltb minute 60 h, le-ltb (p.hour + 1) 24 (omega arith))
 

@@ -1,9 +1,9 @@
 -- The carried times: their range, when they are document 01's, and what they are if document 01 has none. Assumes nothing.
-use Rattle.prelude.proofs.Logic.{◌≡◌, refl, sym, ap, subst, ◌∙◌, Bool, true, false, cond, ℕ, ◌+◌, ◌*◌, ◌≤◌, arith, ltb, lit≤, ℤ, pos}
+use Rattle.std.specs.Prelude.{None, Option, Some}
+use Rattle.std.specs.Option.{option_or}
+use Rattle.prelude.proofs.Logic.{◌≡◌, refl, ap, ◌∙◌, Bool, true, false, cond, ℕ, ◌+◌, ◌*◌, ◌≤◌, arith, ltb, lit≤, ℤ, pos}
 use Rattle.prelude.proofs.Logic.{ltb-true}
 use Rattle.float64.proofs.Floats.{Float, is_normal_of, floor_of}
-use Rattle.solar.specs.declared.setting.SolarHour.{SolarHour}
-use Rattle.solar.specs.declared.setting.SolarHour.TheVariants.{Some, Nothing}
 use Rattle.solar.specs.declared.setting.Placed.{Placed}
 use Rattle.solar.specs.Setting.{hour_adjustment_of, minute_of, day_second_of, sum_of, rest_of, hour_of, setting_hour_of}
 use Rattle.solar.proofs.SettingLaws.{HourOfThreeDays, counted, rest_held, ahead_held}
@@ -28,18 +28,14 @@ unfolding carried_hour_of
 carried_held value = by_tests (has_time_of value) (is_normal_of value)
   where
     by_tests : (a b : Bool) → HourOfThreeDays
-        (cond a (cond b (carried_of (hour_adjustment_of (floor_of value)) (minute_of value (floor_of value))) (Some (pos 0))) Nothing)
+        (cond a (cond b (carried_of (hour_adjustment_of (floor_of value)) (minute_of value (floor_of value))) (Some (pos 0))) None)
     by_tests true true = carry_held (hour_adjustment_of (floor_of value)) (minute_of value (floor_of value)) (ahead_held (floor_of value))
     by_tests true false = record { from = lit≤ tt; to = lit≤ tt }
     by_tests false b = lit≤ tt
 
 -- ---- compared with document 01's rule
 -- from document 01's result to the carried one: a time stays, and no time becomes 0h of the date after the one taken
-abbrev pub carried_from : SolarHour → ℕ → SolarHour
-carried_from (Some t) ahead = Some t
-carried_from Nothing ahead = next_midnight_of ahead
-
-pub carry_from : (p : Placed) (minute : ℕ) → carried_of p minute ≡ carried_from (hour_of p minute) p.ahead
+pub carry_from : (p : Placed) (minute : ℕ) → carried_of p minute ≡ option_or (hour_of p minute) (next_midnight_of p.ahead)
 unfolding carried_of hour_of
 carry_from p minute = by-test (ltb hour 24)
   where
@@ -49,7 +45,7 @@ carry_from p minute = by-test (ltb hour 24)
     time : ℤ
     time = day_second_of p.ahead hour (rest_of minute)
 
-    by-test : (b : Bool) → cond b (Some time) (next_midnight_of p.ahead) ≡ carried_from (cond b (Some time) Nothing) p.ahead
+    by-test : (b : Bool) → cond b (Some time) (next_midnight_of p.ahead) ≡ option_or (cond b (Some time) None) (next_midnight_of p.ahead)
     by-test true = refl
     by-test false = refl
 
@@ -59,11 +55,11 @@ taken_of value = (hour_adjustment_of (floor_of value)).ahead
 
 -- a normal number from -24 to below 48 has document 01's time, or 0h of the date after the one taken if that rule has none
 pub carried_from_lem : (value : Float) → has_time_of value ≡ true → is_normal_of value ≡ true
-    → carried_hour_of value ≡ carried_from (setting_hour_of value) (taken_of value)
+    → carried_hour_of value ≡ option_or (setting_hour_of value) (next_midnight_of (taken_of value))
 unfolding carried_hour_of setting_hour_of
 carried_from_lem value h n = rw (h, n) (carry_from (hour_adjustment_of (floor_of value)) (minute_of value (floor_of value)))
 
-no_time_not_normal : (value : Float) → is_normal_of value ≡ false → setting_hour_of value ≡ Nothing
+no_time_not_normal : (value : Float) → is_normal_of value ≡ false → setting_hour_of value ≡ None
 unfolding setting_hour_of
 no_time_not_normal value n = rw n
 
@@ -72,26 +68,19 @@ pub carried_agrees : (value : Float) (t : ℤ) → has_time_of value ≡ true �
 carried_agrees value t h e = by-test (is_normal_of value) refl
   where
     by-test : (b : Bool) → is_normal_of value ≡ b → carried_hour_of value ≡ Some t
-    by-test true n = carried_from_lem value h n ∙ ap (λ (r : SolarHour). carried_from r (taken_of value)) e
-    by-test false n = absurd (none-not-at t (sym (no_time_not_normal value n) ∙ e))
-      where
-        Timed : SolarHour → Type 0
-        Timed (Some u) = ⊥
-        Timed Nothing = 0 ≤ 0
-
-        none-not-at : (u : ℤ) → Nothing ≡ Some u → ⊥
-        none-not-at u q = subst Timed q (lit≤ tt)
+    by-test true n = carried_from_lem value h n ∙ ap (λ (r : Option ℤ). option_or r (next_midnight_of (taken_of value))) e
+    by-test false n = let none = no_time_not_normal value n in cc
 
 -- if document 01 has none for a normal number from -24 to below 48, it is 0h of the date after the one taken
-pub carried_past : (value : Float) → has_time_of value ≡ true → is_normal_of value ≡ true → setting_hour_of value ≡ Nothing
+pub carried_past : (value : Float) → has_time_of value ≡ true → is_normal_of value ≡ true → setting_hour_of value ≡ None
     → carried_hour_of value ≡ next_midnight_of (taken_of value)
-carried_past value h n e = carried_from_lem value h n ∙ ap (λ (r : SolarHour). carried_from r (taken_of value)) e
+carried_past value h n e = carried_from_lem value h n ∙ ap (λ (r : Option ℤ). option_or r (next_midnight_of (taken_of value))) e
 
 -- a number from -24 to below 48 that is not normal is 0h of the date; any number outside has no time
 pub carried_small : (value : Float) → has_time_of value ≡ true → is_normal_of value ≡ false → carried_hour_of value ≡ Some (pos 0)
 unfolding carried_hour_of
 carried_small value h n = rw (h, n)
 
-pub carried_none : (value : Float) → has_time_of value ≡ false → carried_hour_of value ≡ Nothing
+pub carried_none : (value : Float) → has_time_of value ≡ false → carried_hour_of value ≡ None
 unfolding carried_hour_of
 carried_none value h = rw h

@@ -1,8 +1,8 @@
 -- Request 1's sentences, each as a law of every number. Assumes nothing.
+use Rattle.std.specs.Prelude.{None, Some}
 use Rattle.prelude.proofs.Logic.{◌≡◌, refl, ap, ◌∙◌, Bool, true, false, cond, ◌&&◌, ◌||◌, false≢true, ℕ, ◌+◌, ◌*◌, ◌^◌, ◌≤◌, ◌<◌}
 use Rattle.prelude.proofs.Logic.{mul-le-mul_left, arith, ltb, eqb, ℤ, pos, pow_pos, ltb-true, lt-ltb, le-ltb, leb-false, eqb-true, ne_eqb}
 use Rattle.float64.proofs.Floats.{Float, nan, inf, fin, up, down, round, neg, le, lt, eq, down_pos, dec, is_normal_of, floor_of}
-use Rattle.solar.specs.declared.setting.SolarHour.TheVariants.{Some, Nothing}
 use Rattle.solar.specs.Setting.{hour_adjustment_of, minute_of, setting_hour_of, day_second_of}
 use Rattle.solar.specs.PastMidnight.{has_time_of, next_midnight_of, carried_of, carried_hour_of}
 use Rattle.solar.specs.Promises.{date_taken, hour_sum, minute_left, CarriesPastMidnight}
@@ -64,17 +64,17 @@ from_no_time (fin false m e) h =
     rw (le-ltb (m * up e * 1) (3 * 2 ^ 4 * down e) (either_le (3 * 2 ^ 4 * down e) (m * up e * 1) true h))
     (and_false (le (neg (dec 24 0)) (fin false m e)))
 
-pub below_none : (value : Float) → lt value (neg (dec 24 0)) ≡ true → carried_hour_of value ≡ Nothing
+pub below_none : (value : Float) → lt value (neg (dec 24 0)) ≡ true → carried_hour_of value ≡ None
 below_none value h = carried_none value (below_no_time value h)
 
-pub from_none : (value : Float) → le (dec 48 0) value ≡ true → carried_hour_of value ≡ Nothing
+pub from_none : (value : Float) → le (dec 48 0) value ≡ true → carried_hour_of value ≡ None
 from_none value h = carried_none value (from_no_time value h)
 
-pub nan_none : carried_hour_of nan ≡ Nothing
+pub nan_none : carried_hour_of nan ≡ None
 unfolding carried_hour_of has_time_of dec round neg le lt eq
 nan_none = refl
 
-pub infinite_none : (s : Bool) → carried_hour_of (inf s) ≡ Nothing
+pub infinite_none : (s : Bool) → carried_hour_of (inf s) ≡ None
 unfolding carried_hour_of has_time_of dec round neg le lt eq
 infinite_none true = refl
 infinite_none false = refl
@@ -111,7 +111,7 @@ hour_24_carried value h n l =
     (le-ltb (hour_sum value) 24 (omega arith))
 
 -- if document 01 has no time
-pub lost_carried : (value : Float) → has_time_of value ≡ true → is_normal_of value ≡ true → setting_hour_of value ≡ Nothing
+pub lost_carried : (value : Float) → has_time_of value ≡ true → is_normal_of value ≡ true → setting_hour_of value ≡ None
     → carried_hour_of value ≡ next_midnight_of (date_taken value)
 lost_carried value h n e = carried_past value h n e ∙ ap next_midnight_of (taken_is value h)
 

@@ -1,9 +1,9 @@
 -- The range of the times of `setting_hour`: from 0h of yesterday to 24h of tomorrow, if the hour number has a time. Assumes nothing.
+use Rattle.std.specs.Prelude.{None, Option, Some}
 use Rattle.prelude.proofs.Logic.{◌≡◌, refl, Bool, true, false, cond, ℕ, ◌+◌, ◌*◌, ◌≤◌, ◌<◌, arith, ltb, lit≤, ℤ, pos, ◌-ℤ◌, ltb-true}
 use Rattle.float64.proofs.Floats.{Float, lt, dec, is_normal_of, floor_of}
 use Rattle.integers.proofs.Integers.{Between, difference, by_balance}
-use Rattle.solar.specs.declared.{setting.SolarHour.SolarHour, setting.Placed.Placed}
-use Rattle.solar.specs.declared.setting.SolarHour.TheVariants.{Some, Nothing}
+use Rattle.solar.specs.declared.{setting.Placed.Placed}
 use Rattle.solar.specs.Setting.{hour_adjustment_of, minute_of, day_second_of, sum_of, rest_of, hour_of, setting_hour_of}
 
 -- the earliest time of the sun, in seconds before 0h of its date, and the latest. Only a number that is carried past midnight has the
@@ -18,16 +18,16 @@ abbrev pub OfThreeDays : ℤ → Type 0
 OfThreeDays t = Between earliest_sun latest_sun t
 
 -- an hour's time, if it has one
-abbrev pub HourOfThreeDays : SolarHour → Type 0
+abbrev pub HourOfThreeDays : Option ℤ → Type 0
 HourOfThreeDays (Some t) = OfThreeDays t
-HourOfThreeDays Nothing = 0 ≤ 0
+HourOfThreeDays None = 0 ≤ 0
 
 -- n seconds from 0h of yesterday
 pub counted : (n : ℕ) → n ≤ earliest_sun + latest_sun → OfThreeDays (pos n -ℤ pos 86400)
 counted n h = let d = difference (pos n) (pos 86400) in
     by_balance earliest_sun latest_sun (pos n -ℤ pos 86400) (omega (arith, d.0, d.1)) (omega (arith, d.0, d.1))
 
-where_so : (b : Bool) (t : ℤ) → (b ≡ true → OfThreeDays t) → HourOfThreeDays (cond b (Some t) Nothing)
+where_so : (b : Bool) (t : ℤ) → (b ≡ true → OfThreeDays t) → HourOfThreeDays (cond b (Some t) None)
 where_so true t h = h refl
 where_so false t h = lit≤ tt
 
@@ -59,6 +59,6 @@ pub setting_held : (value : Float) → HourOfThreeDays (setting_hour_of value)
 unfolding setting_hour_of
 setting_held value = by-test (is_normal_of value)
   where
-    by-test : (b : Bool) → HourOfThreeDays (cond b (hour_of (hour_adjustment_of (floor_of value)) (minute_of value (floor_of value))) Nothing)
+    by-test : (b : Bool) → HourOfThreeDays (cond b (hour_of (hour_adjustment_of (floor_of value)) (minute_of value (floor_of value))) None)
     by-test true = hour_held (hour_adjustment_of (floor_of value)) (minute_of value (floor_of value)) (ahead_held (floor_of value))
     by-test false = lit≤ tt

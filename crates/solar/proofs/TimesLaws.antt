@@ -1,13 +1,11 @@
 -- The range of the times of the sun by either rule: from 0h of yesterday to 24h of tomorrow. Assumes nothing.
-use Rattle.prelude.proofs.Logic.{◌≡◌, subst, ◌≤◌, lit≤, ℤ}
+use Rattle.std.specs.Prelude.{Err, None, Ok, Option, Result, Some}
+use Rattle.prelude.proofs.Logic.{◌≡◌, subst, ℤ}
 use lib.Ieee.{Float}
 use Rattle.models.specs.declared.rules.Midnight.{Midnight}
 use Rattle.models.specs.declared.rules.Midnight.TheVariants.{Stops, Carries}
-use Rattle.solar.specs.declared.setting.SolarHour.{SolarHour}
-use Rattle.solar.specs.declared.setting.SolarHour.TheVariants.{Some, Nothing}
+use Rattle.solar.specs.declared.times.Missing.{Missing}
 use Rattle.solar.specs.declared.times.SolarTime.{SolarTime}
-use Rattle.solar.specs.declared.times.SolarDay.{SolarDay}
-use Rattle.solar.specs.declared.times.SolarDay.TheVariants.{Whole, Lacks}
 use Rattle.solar.specs.declared.hours.HourNumbers.{HourNumbers}
 use Rattle.solar.specs.Times.{solar_hour_of, day_of, solar_time_of}
 use Rattle.solar.proofs.SettingLaws.{OfThreeDays, HourOfThreeDays, setting_held}
@@ -27,9 +25,9 @@ pub record SunOfThreeDays (sun : SolarTime) : Type 0 where
   pub sunrise : OfThreeDays sun.sunrise
   pub sunset : OfThreeDays sun.sunset
 
-abbrev pub DayOfThreeDays : SolarDay → Type 0
-DayOfThreeDays (Whole sun) = SunOfThreeDays sun
-DayOfThreeDays (Lacks n) = 0 ≤ n
+abbrev pub DayOfThreeDays : Result SolarTime Missing → Type 0
+DayOfThreeDays (Ok sun) = SunOfThreeDays sun
+DayOfThreeDays (Err missing) = Unit {0}
 
 pub day_held : (rule : Midnight) (n : HourNumbers) → DayOfThreeDays (solar_time_of rule n)
 unfolding solar_time_of day_of
@@ -37,8 +35,8 @@ day_held rule n =
     by-hours (solar_hour_of rule n.transit) (solar_hour_of rule n.sunrise) (solar_hour_of rule n.sunset)
     (hour_held rule n.transit) (hour_held rule n.sunrise) (hour_held rule n.sunset)
   where
-    by-hours : (t r s : SolarHour) → HourOfThreeDays t → HourOfThreeDays r → HourOfThreeDays s → DayOfThreeDays (day_of t r s)
-    by-hours Nothing r s h k l = lit≤ tt
-    by-hours (Some t) Nothing s h k l = lit≤ tt
-    by-hours (Some t) (Some r) Nothing h k l = lit≤ tt
+    by-hours : (t r s : Option ℤ) → HourOfThreeDays t → HourOfThreeDays r → HourOfThreeDays s → DayOfThreeDays (day_of t r s)
+    by-hours None r s h k l = tt
+    by-hours (Some t) None s h k l = tt
+    by-hours (Some t) (Some r) None h k l = tt
     by-hours (Some t) (Some r) (Some s) h k l = record { transit = h; sunrise = k; sunset = l }

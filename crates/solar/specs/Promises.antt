@@ -1,11 +1,10 @@
 -- Request 1's sentences for every hour number: what the rule that carries gives. Proved in proofs/PastMidnightSentences.
-use Rattle.std.specs.Prelude.{ℕ, ◌≤◌, ◌<◌, ◌≡◌, Bool, true, false, cond, ℤ, pos, Float}
+use Rattle.std.specs.Prelude.{ℕ, ◌≤◌, ◌<◌, ◌≡◌, Bool, true, false, cond, ℤ, pos, Float, None, Some}
 use Rattle.std.specs.Float.{nan, inf, fin}
 use Rattle.std.specs.Float.Ieee.{le, lt, neg}
 use Rattle.float64.specs.Ops.{dec}
 use Rattle.float64.specs.Sizes.{is_normal_of}
 use Rattle.float64.specs.Whole.{floor_of}
-use Rattle.solar.specs.declared.setting.SolarHour.TheVariants.{Some, Nothing}
 use Rattle.solar.specs.Setting.{hour_adjustment_of, minute_of, day_second_of, sum_of, rest_of, setting_hour_of}
 use Rattle.solar.specs.PastMidnight.{has_time_of, next_midnight_of, carried_hour_of}
 
@@ -34,7 +33,7 @@ pub record CarriesPastMidnight : Type 0 where
   -- "Zero and subnormal numbers are 00:00 of the date."
   pub small : (s : Bool) (m : ℕ) (e : ℤ) → is_normal_of (fin s m e) ≡ false → carried_hour_of (fin s m e) ≡ Some (pos 0)
   -- "Numbers below -24 or from 48 on have no time", and a NaN has none
-  pub below : (value : Float) → lt value (neg (dec 24 0)) ≡ true → carried_hour_of value ≡ Nothing
-  pub from : (value : Float) → le (dec 48 0) value ≡ true → carried_hour_of value ≡ Nothing
-  pub nan : carried_hour_of nan ≡ Nothing
-  pub infinite : (s : Bool) → carried_hour_of (inf s) ≡ Nothing
+  pub below : (value : Float) → lt value (neg (dec 24 0)) ≡ true → carried_hour_of value ≡ None
+  pub from : (value : Float) → le (dec 48 0) value ≡ true → carried_hour_of value ≡ None
+  pub nan : carried_hour_of nan ≡ None
+  pub infinite : (s : Bool) → carried_hour_of (inf s) ≡ None

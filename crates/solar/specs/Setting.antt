@@ -1,11 +1,9 @@
 -- solar.rs: an hour number as a time, in seconds from 0h of its date.
-use Rattle.std.specs.Prelude.{ℕ, ◌+◌, ◌*◌, cond, ℤ, pos, ◌-ℤ◌, ltb, Float}
+use Rattle.std.specs.Prelude.{ℕ, ◌+◌, ◌*◌, cond, ℤ, pos, ◌-ℤ◌, ltb, Float, None, Option, Some}
 use Rattle.std.specs.Float.Ieee.{lt, to_unsigned}
 use Rattle.float64.specs.Ops.{◌+ᶠ◌, ◌-ᶠ◌, ◌*ᶠ◌, ◌/ᶠ◌, dec}
 use Rattle.float64.specs.Sizes.{is_normal_of}
 use Rattle.float64.specs.Whole.{floor_of, round_of}
-use Rattle.solar.specs.declared.setting.SolarHour.{SolarHour}
-use Rattle.solar.specs.declared.setting.SolarHour.TheVariants.{Some, Nothing}
 use Rattle.solar.specs.declared.setting.Placed.{Placed}
 
 -- hour_adjustment: "Floored hours below 0 take yesterday, hours plus 24, clamped at 0; from 24, tomorrow, minus 24."
@@ -37,13 +35,13 @@ abbrev pub rest_of : ℕ → ℕ
 rest_of minute = cond (ltb minute 60) minute 0
 
 -- "and a sum of 24 or more has no time"
-unfoldable pub hour_of : Placed → ℕ → SolarHour
+unfoldable pub hour_of : Placed → ℕ → Option ℤ
 hour_of p minute =
     let hour = sum_of p.hour minute in
-    cond (ltb hour 24) (Some (day_second_of p.ahead hour (rest_of minute))) Nothing
+    cond (ltb hour 24) (Some (day_second_of p.ahead hour (rest_of minute))) None
 
 -- setting_hour: "not normal (NaN, infinite, zero, subnormal) has no time"
-unfoldable pub setting_hour_of : Float → SolarHour
+unfoldable pub setting_hour_of : Float → Option ℤ
 setting_hour_of value =
     let hours = floor_of value in
-    cond (is_normal_of value) (hour_of (hour_adjustment_of hours) (minute_of value hours)) Nothing
+    cond (is_normal_of value) (hour_of (hour_adjustment_of hours) (minute_of value hours)) None

@@ -25,6 +25,7 @@ pub struct HourNumbers {
 const SOLAR_ALTITUDE_SINE: f64 = -0.014543897651582656; // 0xbf8dc930 e628cb24
 
 // The altitude of the sun's center at sunrise and sunset.
+#[tactic(auto, unfolding(crate::specs::Hours::solar_altitude, float64::proofs::Floats::dec, float64::proofs::Floats::round, float64::proofs::Floats::of_bits))]
 fn solar_altitude() -> Angle
     ensures { result ≡ solar_altitude }
 {
@@ -49,6 +50,7 @@ pub fn date_course(date: Date, coordinates: Coordinates) -> Course
 }
 
 // The hour number at which the sun is at an angle whose sine is given.
+#[tactic(auto, unfolding(crate::specs::Shared::course_sine_number_of))]
 pub fn sine_number(course: Course, sine: f64, angle: Angle, after_transit: bool) -> f64
     ensures { result ≡ course_sine_number_of course sine angle after_transit }
 {
@@ -56,6 +58,7 @@ pub fn sine_number(course: Course, sine: f64, angle: Angle, after_transit: bool)
 }
 
 // The hour number at which the sun is at an angle.
+#[tactic(auto, unfolding(crate::specs::Shared::course_angle_number_of))]
 pub fn angle_number(course: Course, angle: Angle, after_transit: bool) -> f64
     ensures { result ≡ course_angle_number_of course angle after_transit }
 {
@@ -76,6 +79,7 @@ pub fn hour_numbers(course: Course) -> HourNumbers
 }
 
 // The angle at which a shadow has grown by `shadow_length` lengths.
+#[tactic(auto, unfolding(crate::specs::Hours::shadow_angle_of, float64::specs::Ops::dec))]
 fn shadow_angle(latitude: f64, declination: f64, shadow_length: f64) -> Angle
     ensures { result ≡ shadow_angle_of latitude declination shadow_length }
 {
@@ -85,6 +89,7 @@ fn shadow_angle(latitude: f64, declination: f64, shadow_length: f64) -> Angle
 }
 
 // The hour number of Asr.
+#[tactic(auto, unfolding(crate::specs::Shared::course_afternoon_number_of))]
 pub fn afternoon_number(course: Course, latitude: f64, shadow_length: f64) -> f64
     ensures { result ≡ course_afternoon_number_of course latitude shadow_length }
 {

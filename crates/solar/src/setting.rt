@@ -8,14 +8,8 @@ use float64::casts::to_u32;
 use float64::sizes::is_normal;
 use float64::whole::{floor, round};
 
-#[derive(Clone, Copy)]
-pub enum SolarHour {
-    // Below 0 a time of yesterday, from 86,400 on one of tomorrow.
-    Some(i32),
-    Nothing,
-}
-
-// An hour of yesterday (0), of the date (1) or of tomorrow (2).
+// An hour of yesterday (0), of the date (1) or of tomorrow (2). A number and no enum: code, definitions and the sentences of
+// CarriesPastMidnight multiply it by the seconds of a day.
 #[derive(Clone, Copy)]
 pub struct Placed {
     pub ahead: u8,
@@ -23,6 +17,7 @@ pub struct Placed {
 }
 
 // The hour as one of yesterday, of the date or of tomorrow. It is 0 to 23 if the number is not beyond these three days.
+#[tactic(auto, unfolding(crate::specs::Setting::hour_adjustment_of, float64::proofs::Floats::dec, float64::proofs::Floats::round, float64::proofs::Floats::of_bits))]
 pub fn hour_adjustment(calculated_hours: f64) -> Placed
     ensures { result ≡ hour_adjustment_of calculated_hours }
 {
@@ -45,6 +40,7 @@ pub fn hour_adjustment(calculated_hours: f64) -> Placed
 }
 
 // The nearest minute. It is computed in floats because the floored seconds can be -1.
+#[tactic(auto, unfolding(crate::specs::Setting::minute_of, float64::proofs::Floats::dec, float64::proofs::Floats::round, float64::proofs::Floats::of_bits))]
 pub(crate) fn minute(value: f64, calculated_hours: f64) -> u32
     ensures { result ≡ minute_of value calculated_hours }
 {
@@ -59,41 +55,37 @@ fn date_minute(value: f64, calculated_hours: f64) -> u32
     ensures { result ≡ minute_of value calculated_hours }
 {
     let minutes = (value - calculated_hours) * 60.0;
-    if 0.0 < minutes {
-        if minutes < 60.0 {
-            let calculated_minutes = floor(minutes);
-            let seconds = (value - (calculated_hours + calculated_minutes / 60.0)) * 60.0 * 60.0;
-            if 0.0 < seconds {
-                if seconds < 60.0 {
-                    return calculated_minutes as u32 + !(seconds < 30.0) as u32;
-                }
-            }
+    if 0.0 < minutes && minutes < 60.0 {
+        let calculated_minutes = floor(minutes);
+        let seconds = (value - (calculated_hours + calculated_minutes / 60.0)) * 60.0 * 60.0;
+        if 0.0 < seconds && seconds < 60.0 {
+            return calculated_minutes as u32 + !(seconds < 30.0) as u32;
         }
     }
     minute(value, calculated_hours)
 }
 
-pub(crate) fn hour(p: Placed, minute: u32) -> SolarHour
+#[tactic(auto, unfolding(crate::specs::Setting::hour_of))]
+pub(crate) fn hour(p: Placed, minute: u32) -> Option<i32>
     ensures { result ≡ hour_of p minute }
 {
-    let ahead = p.ahead;
-    let hour = p.hour;
+    let Placed { ahead, hour } = p;
     if minute < 60 {
         if hour < 24 {
             let n = (ahead as u32) * 86400 + hour * 3600 + minute * 60;
-            return SolarHour::Some(n as i32 - 86400);
+            return Some(n as i32 - 86400);
         }
-        return SolarHour::Nothing;
+        return None;
     }
     if hour < 23 {
         let n = (ahead as u32) * 86400 + (hour + 1) * 3600;
-        return SolarHour::Some(n as i32 - 86400);
+        return Some(n as i32 - 86400);
     }
-    SolarHour::Nothing
+    None
 }
 
 // A number above 1 and below 24 is normal, and its floored hours are an hour of the date.
-fn date_hour(value: f64) -> SolarHour
+fn date_hour(value: f64) -> Option<i32>
     requires { (lt (dec 1 0) value ≡ true) × (lt value (dec 24 0) ≡ true) }
     ensures { result ≡ setting_hour_of value }
 {
@@ -106,17 +98,15 @@ fn date_hour(value: f64) -> SolarHour
 }
 
 // The time of an hour number, if it has one.
-pub fn setting_hour(value: f64) -> SolarHour
+pub fn setting_hour(value: f64) -> Option<i32>
     ensures { result ≡ setting_hour_of value }
 {
-    if 1.0 < value {
-        if value < 24.0 {
-            return date_hour(value);
-        }
+    if 1.0 < value && value < 24.0 {
+        return date_hour(value);
     }
     if is_normal(value) {
         let hours = floor(value);
         return hour(hour_adjustment(hours), minute(value, hours));
     }
-    SolarHour::Nothing
+    None
 }

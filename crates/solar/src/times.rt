@@ -1,19 +1,20 @@
 // solar.rs: the times of the sun on a day, each in seconds from 0h of its date. If the source's SolarTime::new would panic, the day lacks a
-// time and is refused with a number.
+// time, and the result says which.
 ghost use Rattle.std.specs.Prelude.{◌≡◌};
 ghost use Rattle.solar.specs.Hours.{sun_on};
-ghost use Rattle.solar.specs.Times.{solar_hour_of, day_of, solar_time_of, time_for_solar_angle_of, afternoon_of};
+ghost use Rattle.solar.specs.Times.{missing_number_of, solar_hour_of, day_of, solar_time_of, time_for_solar_angle_of, afternoon_of};
 
 use super::hours::{HourNumbers, afternoon_number, angle_number, date_course};
 use super::past_midnight::carried_hour;
-use super::setting::{SolarHour, setting_hour};
+use super::setting::setting_hour;
 use calendar::dates::Date;
 use models::rules::Midnight;
 use refusals::{NO_SUNRISE, NO_SUNSET, NO_TRANSIT};
 use unit::{Angle, Coordinates};
 
 // The time of an hour number by a rule, if it has one. Only this function looks at the rule.
-pub fn solar_hour(rule: Midnight, number: f64) -> SolarHour
+#[tactic(auto, unfolding(crate::specs::Times::solar_hour_of))]
+pub fn solar_hour(rule: Midnight, number: f64) -> Option<i32>
     ensures { result ≡ solar_hour_of rule number }
 {
     match rule {
@@ -29,35 +30,46 @@ pub struct SolarTime {
     pub sunset: i32,
 }
 
+// The time that a day lacks.
 #[derive(Clone, Copy)]
-pub enum SolarDay {
-    Whole(SolarTime),
-    // 6 the transit, 7 the sunrise, 8 the sunset.
-    Lacks(u32),
+pub enum Missing {
+    Transit,
+    Sunrise,
+    Sunset,
+}
+
+impl Missing {
+    // The number of its refusal.
+    pub fn number(self) -> u32
+        ensures { result ≡ missing_number_of self }
+    {
+        match self {
+            Missing::Transit => NO_TRANSIT,
+            Missing::Sunrise => NO_SUNRISE,
+            Missing::Sunset => NO_SUNSET,
+        }
+    }
 }
 
 // The three times, or the first that is missing.
-fn day(transit: SolarHour, sunrise: SolarHour, sunset: SolarHour) -> SolarDay
+#[tactic(auto, unfolding(crate::specs::Times::day_of))]
+fn day(
+    transit: Option<i32>,
+    sunrise: Option<i32>,
+    sunset: Option<i32>,
+) -> Result<SolarTime, Missing>
     ensures { result ≡ day_of transit sunrise sunset }
 {
-    let SolarHour::Some(transit) = transit else {
-        return SolarDay::Lacks(NO_TRANSIT);
-    };
-    let SolarHour::Some(sunrise) = sunrise else {
-        return SolarDay::Lacks(NO_SUNRISE);
-    };
-    let SolarHour::Some(sunset) = sunset else {
-        return SolarDay::Lacks(NO_SUNSET);
-    };
-    SolarDay::Whole(SolarTime {
-        transit: transit,
-        sunrise: sunrise,
-        sunset: sunset,
+    Ok(SolarTime {
+        transit: transit.ok_or(Missing::Transit)?,
+        sunrise: sunrise.ok_or(Missing::Sunrise)?,
+        sunset: sunset.ok_or(Missing::Sunset)?,
     })
 }
 
 impl SolarTime {
-    pub fn new(rule: Midnight, numbers: HourNumbers) -> SolarDay
+    #[tactic(auto, unfolding(crate::specs::Times::solar_time_of))]
+    pub fn new(rule: Midnight, numbers: HourNumbers) -> Result<SolarTime, Missing>
         ensures { result ≡ solar_time_of rule numbers }
     {
         day(
@@ -75,7 +87,7 @@ pub fn time_for_solar_angle(
     coordinates: Coordinates,
     angle: Angle,
     after_transit: bool,
-) -> SolarHour
+) -> Option<i32>
     ensures { result ≡ time_for_solar_angle_of rule (sun_on coordinates date) angle after_transit }
 {
     let course = date_course(date, coordinates);
@@ -88,7 +100,7 @@ pub fn afternoon(
     date: Date,
     coordinates: Coordinates,
     shadow_length: f64,
-) -> SolarHour
+) -> Option<i32>
     ensures { result ≡ afternoon_of rule (sun_on coordinates date) shadow_length }
 {
     let course = date_course(date, coordinates);

@@ -5,22 +5,21 @@ ghost use Rattle.text.specs.Signed.{signed_of};
 
 use super::decimal::put_decimal;
 use super::put::put;
-use integers::parts::{above, below};
 
 // A minus and twenty digits.
 const MOST_BYTES: usize = 21;
 
 // Writes a number at the front of `text`. Returns how many bytes it has.
-fn make_signed(text: &mut [u8], z: i64) -> usize
-    requires { length text.old ≡ 21 }
+fn make_signed(text: &mut [u8; MOST_BYTES], z: i64) -> usize
     ensures value { result ≡ length (signed_of z) }
     ensures text_after { text.new ≡ front_of (signed_of z) text.old }
 {
     if z < 0 {
-        put(&mut text[..], 0, b"-");
-        return 1 + put_decimal(&mut text[..], 1, below(z));
+        put(text, 0, b"-");
+        1 + put_decimal(text, 1, z.unsigned_abs())
+    } else {
+        put_decimal(text, 0, z.unsigned_abs())
     }
-    put_decimal(&mut text[..], 0, above(z))
 }
 
 // Writes a number into a lent buffer, as `put` does. Returns how many bytes it has. The number is made in an array first: a buffer
@@ -31,6 +30,6 @@ pub fn put_signed(buffer: &mut [u8], at: usize, z: i64) -> usize
 {
     let mut text = [0u8; MOST_BYTES];
     let end = make_signed(&mut text, z);
-    put(&mut buffer[..], at, &text[..end]);
+    put(buffer, at, &text[..end]);
     end
 }

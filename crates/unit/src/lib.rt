@@ -7,10 +7,11 @@ ghost use Rattle.unit.specs.Unit.{normalized_to_scale_of, angle_of, from_radians
 ghost use Rattle.unit.specs.Unit.{minus_of, product_of, over_of, coordinates_of, latitude_angle_of, longitude_angle_of};
 
 use float64::whole::{floor, round};
-
-const PI: f64 = 3.14159265358979323846;
+use std::f64::consts::PI;
+use std::ops::{Add, Div, Mul, Sub};
 
 // value less the largest whole multiple of max that is not above it.
+#[tactic(auto, unfolding(crate::specs::Unit::normalized_to_scale_of))]
 pub fn normalized_to_scale(value: f64, max: f64) -> f64
     ensures { result ≡ normalized_to_scale_of value max }
 {
@@ -29,6 +30,7 @@ impl Angle {
         Angle { degrees: value }
     }
 
+    #[tactic(auto, unfolding(float64::specs::Ops::dec, float64::proofs::Floats::round, float64::proofs::Floats::of_bits))]
     pub fn from_radians(value: f64) -> Angle
         ensures { result ≡ from_radians_of value }
     {
@@ -37,6 +39,7 @@ impl Angle {
         }
     }
 
+    #[tactic(auto, unfolding(float64::specs::Ops::dec, float64::proofs::Floats::round, float64::proofs::Floats::of_bits))]
     pub fn radians(self) -> f64
         ensures { result ≡ radians_of self }
     {
@@ -48,13 +51,11 @@ impl Angle {
         ensures { result ≡ unwound_of self }
     {
         let degrees = self.degrees;
-        if 0.0 < degrees {
-            if degrees < 359.0 {
-                return self;
-            }
+        if 0.0 < degrees && degrees < 359.0 {
+            return self;
         }
         Angle {
-            degrees: normalized_to_scale(self.degrees, 360.0),
+            degrees: normalized_to_scale(degrees, 360.0),
         }
     }
 
@@ -71,35 +72,51 @@ impl Angle {
             }
         }
     }
+}
 
-    pub fn add(self, rhs: Angle) -> Angle
-        ensures { result ≡ plus_of self rhs }
-    {
+impl Add for Angle {
+    type Output = Angle;
+
+    ghost add_gives = { λ a b r. r ≡ plus_of a b };
+
+    fn add(self, rhs: Angle) -> Angle {
         Angle {
             degrees: self.degrees + rhs.degrees,
         }
     }
+}
 
-    pub fn sub(self, rhs: Angle) -> Angle
-        ensures { result ≡ minus_of self rhs }
-    {
+impl Sub for Angle {
+    type Output = Angle;
+
+    ghost sub_gives = { λ a b r. r ≡ minus_of a b };
+
+    fn sub(self, rhs: Angle) -> Angle {
         Angle {
             degrees: self.degrees - rhs.degrees,
         }
     }
+}
 
-    pub fn mul(self, rhs: Angle) -> Angle
-        ensures { result ≡ product_of self rhs }
-    {
+impl Mul for Angle {
+    type Output = Angle;
+
+    ghost mul_gives = { λ a b r. r ≡ product_of a b };
+
+    fn mul(self, rhs: Angle) -> Angle {
         Angle {
             degrees: self.degrees * rhs.degrees,
         }
     }
+}
+
+impl Div for Angle {
+    type Output = Angle;
+
+    ghost div_gives = { λ a b r. r ≡ over_of a b };
 
     // The source's operator panics if rhs is zero. The source divides only by 360 and -360.
-    pub fn div(self, rhs: Angle) -> Angle
-        ensures { result ≡ over_of self rhs }
-    {
+    fn div(self, rhs: Angle) -> Angle {
         Angle {
             degrees: self.degrees / rhs.degrees,
         }
@@ -119,8 +136,8 @@ impl Coordinates {
         ensures { result ≡ coordinates_of latitude longitude }
     {
         Coordinates {
-            latitude: latitude,
-            longitude: longitude,
+            latitude,
+            longitude,
         }
     }
 

@@ -1,9 +1,10 @@
 -- A window's line, put piece by piece from an offset on. Assumes nothing.
+use Rattle.std.specs.Prelude.{None, Option, Some}
 use Rattle.prelude.proofs.Logic.{◌≡◌, refl, ap, ◌∙◌, List, ◌++◌, ℕ, ◌+◌, ◌≤◌, arith, ℤ, length, length-append}
 use Rattle.text.proofs.TextLaws.{put_behind}
 use Rattle.text.specs.Signed.{signed_of}
 use Rattle.text.specs.Text.{ascii, decimal_of, put_of}
-use Rattle.weeks.specs.declared.window.{Extremes.Extremes, Window.Window, Window.TheVariants.Found, Window.TheVariants.Refused}
+use Rattle.weeks.specs.declared.window.{Extremes.Extremes}
 use Rattle.weeks.specs.Lines.{pair_text, line_of}
 
 -- a text is put at `at`: it ends at `end`, and `now` is the buffer after it
@@ -32,19 +33,19 @@ unfolding pair_text
 pair_bytes z row = simp length-append (omega arith)
 
 pub found_bytes : (first : ℕ) (x : Extremes)
-    → length (line_of first (Found x))
+    → length (line_of first (Some x))
     ≡ length (decimal_of first) + length (pair_text x.earliest x.earliest_row) + length (pair_text x.latest x.latest_row) + 1
 unfolding line_of
 found_bytes first x = simp length-append (omega arith)
 
-pub refused_bytes : (first : ℕ) → length (line_of first Refused) ≡ length (decimal_of first) + 9
+pub refused_bytes : (first : ℕ) → length (line_of first None) ≡ length (decimal_of first) + 9
 unfolding line_of
 refused_bytes first = simp length-append (omega arith)
 
 -- both kinds of line begin with the window's first row
-pub line_front : (first : ℕ) (w : Window) → length (decimal_of first) ≤ length (line_of first w)
-line_front first (Found x) = let n = found_bytes first x in omega arith
-line_front first Refused = let n = refused_bytes first in omega arith
+pub line_front : (first : ℕ) (w : Option Extremes) → length (decimal_of first) ≤ length (line_of first w)
+line_front first (Some x) = let n = found_bytes first x in omega arith
+line_front first None = let n = refused_bytes first in omega arith
 
 module _ (buffer : List ℕ) (at : ℕ) where
   pub pair_made : (z : ℤ) (row : ℕ) → at + length (pair_text z row) ≤ length buffer → (one two three four : List ℕ) (k j : ℕ)
@@ -60,13 +61,13 @@ module _ (buffer : List ℕ) (at : ℕ) where
       let q = more buffer two three at _ 1 (ascii " " ++ signed_of z) (ascii " ") p c refl (omega arith) in
       more buffer three four at _ j (ascii " " ++ signed_of z ++ ascii " ") (decimal_of row) q d' d (omega arith)
 
-  pub found-made : (first : ℕ) (x : Extremes) → at + length (line_of first (Found x)) ≤ length buffer
+  pub found-made : (first : ℕ) (x : Extremes) → at + length (line_of first (Some x)) ≤ length buffer
       → (one two three four : List ℕ) (k i j : ℕ)
       → k ≡ length (decimal_of first) → one ≡ put_of buffer at (decimal_of first)
       → i ≡ at + k + length (pair_text x.earliest x.earliest_row)
       → two ≡ put_of one (at + k) (pair_text x.earliest x.earliest_row)
       → j ≡ i + length (pair_text x.latest x.latest_row) → three ≡ put_of two i (pair_text x.latest x.latest_row)
-      → four ≡ put_of three j (ascii "\n") → Put buffer at (line_of first (Found x)) four (j + 1)
+      → four ≡ put_of three j (ascii "\n") → Put buffer at (line_of first (Some x)) four (j + 1)
   unfolding line_of
   found-made first x room one two three four k i j a a' b b' c c' d =
       let n = found_bytes first x in
@@ -80,9 +81,9 @@ module _ (buffer : List ℕ) (at : ℕ) where
       let q : Put buffer at (t1 ++ t2 ++ t3) three j = next buffer two three at i j (t1 ++ t2) t3 p c' c (omega arith) in
       more buffer three four at j 1 (t1 ++ t2 ++ t3) (ascii "\n") q d refl (omega arith)
 
-  pub refused-made : (first : ℕ) → at + length (line_of first Refused) ≤ length buffer → (one two : List ℕ) (k : ℕ)
+  pub refused-made : (first : ℕ) → at + length (line_of first None) ≤ length buffer → (one two : List ℕ) (k : ℕ)
       → k ≡ length (decimal_of first) → one ≡ put_of buffer at (decimal_of first) → two ≡ put_of one (at + k) (ascii " refused\n")
-      → Put buffer at (line_of first Refused) two (at + k + 9)
+      → Put buffer at (line_of first None) two (at + k + 9)
   unfolding line_of
   refused-made first room one two k a a' b =
       let n = refused_bytes first in

@@ -1,22 +1,22 @@
 -- Looking through a window row by row finds what is true of its rows. Assumes nothing.
+use Rattle.std.specs.Prelude.{None, Option, Some}
 use Rattle.prelude.proofs.Logic.{◌≡◌, refl, subst, Bool, true, false, cond, ℕ, zero, suc, ◌+◌, ◌≤◌, ◌<◌, arith, ℤ, lt_z}
 use borrow.Author.Count.{below_more}
 use Rattle.integers.proofs.OrderLaws.{lt_yes, lt_no, to_lt, to_not_lt}
-use Rattle.weeks.specs.declared.minutes.Minute.{Minute, TheVariants.Some, TheVariants.Nothing}
-use Rattle.weeks.specs.declared.window.{Extremes.Extremes, Window.Window, Window.TheVariants.Found, Window.TheVariants.Refused}
+use Rattle.weeks.specs.declared.window.{Extremes.Extremes}
 use Rattle.weeks.specs.Windows.{extremes, begin_of, earlier_in, later_in, seen_of, look_of, window_of}
 use Rattle.weeks.specs.Meaning.{Best, earlier, later, RightWindow, Answers}
 
-same_minute : (x : Minute) (m n : ℤ) → x ≡ Some m → x ≡ Some n → m ≡ n
+same_minute : (x : Option ℤ) (m n : ℤ) → x ≡ Some m → x ≡ Some n → m ≡ n
 same_minute x m n a b = cc
 
-not_both : (x : Minute) (m : ℤ) → x ≡ Some m → x ≡ Nothing → ⊥
+not_both : (x : Option ℤ) (m : ℤ) → x ≡ Some m → x ≡ None → ⊥
 not_both x m a b = let z : ◌≡◌ {A = ℕ} 0 1 = cc in omega arith
 
 module _ (before : ℤ → ℤ → Bool) (itself : (x : ℤ) → before x x ≡ false)
     (ahead : (x y z : ℤ) → before x y ≡ true → before z y ≡ false → before x z ≡ true)
     (behind : (x y z : ℤ) → before x y ≡ true → before z y ≡ false → before z x ≡ false) where
-  best-begin : (f : ℕ → Minute) (first : ℕ) (m : ℤ) → f first ≡ Some m → Best before f first (first + 1) m first
+  best-begin : (f : ℕ → Option ℤ) (first : ℕ) (m : ℤ) → f first ≡ Some m → Best before f first (first + 1) m first
   best-begin f first m e =
       record {
         from = omega arith;
@@ -28,7 +28,7 @@ module _ (before : ℤ → ℤ → Bool) (itself : (x : ℤ) → before x x ≡ 
         is_first = λ r h g. absurd (omega arith);
       }
 
-  best-taken : (f : ℕ → Minute) (first next row : ℕ) (b m : ℤ) → f next ≡ Some m → before m b ≡ true → Best before f first next b row
+  best-taken : (f : ℕ → Option ℤ) (first next row : ℕ) (b m : ℤ) → f next ≡ Some m → before m b ≡ true → Best before f first next b row
       → Best before f first (next + 1) m next
   best-taken f first next row b m e t k =
       record {
@@ -42,7 +42,7 @@ module _ (before : ℤ → ℤ → Bool) (itself : (x : ℤ) → before x x ≡ 
         is_first = λ r h g n d. ahead m b n t (k.none_before r h g n d);
       }
 
-  best-left : (f : ℕ → Minute) (first next row : ℕ) (b m : ℤ) → f next ≡ Some m → before m b ≡ false → Best before f first next b row
+  best-left : (f : ℕ → Option ℤ) (first next row : ℕ) (b m : ℤ) → f next ≡ Some m → before m b ≡ false → Best before f first next b row
       → Best before f first (next + 1) b row
   best-left f first next row b m e t k =
       record {
@@ -71,20 +71,20 @@ gt_behind : (x y z : ℤ) → lt_z y x ≡ true → lt_z y z ≡ false → lt_z 
 gt_behind x y z a b = let p = lt_yes y x a in let q = lt_no y z b in to_not_lt x z (omega arith)
 
 -- ---- the first row
-answers_begin : (f : ℕ → Minute) (first : ℕ) (x : Minute) → f first ≡ x → Answers f first (first + 1) (begin_of first x)
-answers_begin f first Nothing e = record { row = first; from = omega arith; to = omega arith; is = e }
+answers_begin : (f : ℕ → Option ℤ) (first : ℕ) (x : Option ℤ) → f first ≡ x → Answers f first (first + 1) (begin_of first x)
+answers_begin f first None e = record { row = first; from = omega arith; to = omega arith; is = e }
 answers_begin f first (Some m) e =
     record {
       none_refused =
-          below_more (λ (r : ℕ). first ≤ r → f r ≡ Nothing → ⊥) first (λ r h g. absurd (omega arith)) (λ g d. not_both (f first) m e d);
+          below_more (λ (r : ℕ). first ≤ r → f r ≡ None → ⊥) first (λ r h g. absurd (omega arith)) (λ g d. not_both (f first) m e d);
       early = best-begin earlier lt_itself lt_ahead lt_behind f first m e;
       late = best-begin later lt_itself gt_ahead gt_behind f first m e;
     }
 
 -- ---- one row more
-module _ (f : ℕ → Minute) (first next : ℕ) (x : Extremes) (m : ℤ) (e : f next ≡ Some m) (k : RightWindow f first next x) where
-  none_refused : (r : ℕ) → r < next + 1 → first ≤ r → f r ≡ Nothing → ⊥
-  none_refused = below_more (λ (r : ℕ). first ≤ r → f r ≡ Nothing → ⊥) next k.none_refused (λ g z. not_both (f next) m e z)
+module _ (f : ℕ → Option ℤ) (first next : ℕ) (x : Extremes) (m : ℤ) (e : f next ≡ Some m) (k : RightWindow f first next x) where
+  none_refused : (r : ℕ) → r < next + 1 → first ≤ r → f r ≡ None → ⊥
+  none_refused = below_more (λ (r : ℕ). first ≤ r → f r ≡ None → ⊥) next k.none_refused (λ g z. not_both (f next) m e z)
 
   early-taken : lt_z m x.earliest ≡ true → Best earlier f first (next + 1) m next
   early-taken t = best-taken earlier lt_itself lt_ahead lt_behind f first next _ _ m e t k.early
@@ -110,20 +110,20 @@ module _ (f : ℕ → Minute) (first next : ℕ) (x : Extremes) (m : ℤ) (e : f
   unfolding earlier_in later_in
   right-step = by_tests _ _ refl refl
 
-answers_step : (f : ℕ → Minute) (first next : ℕ) (w : Window) (x : Minute) → f next ≡ x → first ≤ next → Answers f first next w
+answers_step : (f : ℕ → Option ℤ) (first next : ℕ) (w : Option Extremes) (x : Option ℤ) → f next ≡ x → first ≤ next → Answers f first next w
     → Answers f first (next + 1) (seen_of w next x)
-answers_step f first next Refused x e h k = record { row = k.row; from = k.from; to = let y = k.to in omega arith; is = k.is }
-answers_step f first next (Found x) Nothing e h k = record { row = next; from = h; to = omega arith; is = e }
-answers_step f first next (Found x) (Some m) e h k = right-step f first next x m e k
+answers_step f first next None x e h k = record { row = k.row; from = k.from; to = let y = k.to in omega arith; is = k.is }
+answers_step f first next (Some x) None e h k = record { row = next; from = h; to = omega arith; is = e }
+answers_step f first next (Some x) (Some m) e h k = right-step f first next x m e k
 
-answers_look : (f : ℕ → Minute) (first : ℕ) (w : Window) (row k last : ℕ) → last ≡ row + k → first ≤ row → Answers f first row w
+answers_look : (f : ℕ → Option ℤ) (first : ℕ) (w : Option Extremes) (row k last : ℕ) → last ≡ row + k → first ≤ row → Answers f first row w
     → Answers f first last (look_of f w row k)
 answers_look f first w row zero last e h a = subst (λ (n : ℕ). Answers f first n w) (omega arith) a
 answers_look f first w row (suc k) last e h a =
     answers_look f first (seen_of w row (f row)) (row + 1) k last (omega arith) (omega arith) (answers_step f first row w (f row) refl h a)
 
 -- a window is refused if one of its seven rows is; else it has the earliest, the latest and the first row of each
-pub window_answers : (f : ℕ → Minute) (first : ℕ) → Answers f first (first + 7) (window_of f first)
+pub window_answers : (f : ℕ → Option ℤ) (first : ℕ) → Answers f first (first + 7) (window_of f first)
 unfolding window_of
 window_answers f first =
     answers_look f first (begin_of first (f first)) (first + 1) 6 (first + 7) (omega arith) (omega arith)

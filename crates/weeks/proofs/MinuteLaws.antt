@@ -1,7 +1,9 @@
 -- A row's minute, as it is worked and as it is defined. Assumes nothing.
-use Rattle.prelude.proofs.Logic.{◌≡◌, refl, ap, ◌∙◌, Bool, true, false, cond, List, ℕ, ◌+◌, ◌*◌, ◌/◌, ◌%◌, ◌^◌, ◌<◌, arith, lit≤, lit<, ℤ}
-use Rattle.prelude.proofs.Logic.{pos, negsuc, ◌+ℤ◌, ◌*ℤ◌, w64, SFits, to_z, to_z_pos, length, set, get_or-set_same, get_or-set_other, eqb}
-use Rattle.prelude.proofs.Logic.{eqb-true, eqb-false, eq-eqb, ne_eqb, cases}
+use Rattle.std.specs.Prelude.{Err, None, Ok, Option, Result}
+use Rattle.schedule.specs.declared.prayer_times.PrayerTimes.{PrayerTimes}
+use Rattle.refusals.specs.declared.Refusal.{Refusal}
+use Rattle.prelude.proofs.Logic.{◌≡◌, refl, ap, ◌∙◌, List, ℕ, ◌+◌, ◌-◌, ◌*◌, ◌/◌, ◌%◌, ◌^◌, ◌<◌, arith, lit≤, lit<, ℤ}
+use Rattle.prelude.proofs.Logic.{pos, negsuc, ◌+ℤ◌, ◌*ℤ◌, w64, SFits, to_z, to_z_pos, length, set, length-set, get_or-set_same, get_or-set_other}
 use Rattle.calendar.specs.Answers.{row_date_of}
 use Rattle.days.proofs.RowStates.{state_of, state-worked}
 use Rattle.days.specs.Calls.{work_row_of}
@@ -9,12 +11,11 @@ use Rattle.integers.proofs.Integers.{Near, floor_quot, floor_rem, Held, held_sum
 use Rattle.integers.proofs.Integers.{read_back, sum, times}
 use Rattle.order.specs.{Accepted.Accepted, declared.reading.Order.Order}
 use Rattle.schedule.proofs.RowSunsLaws.{suns_fajr}
-use Rattle.schedule.specs.{RowSuns.row_suns_of, RowSuns.row_suns_fajr_of, declared.prayer_times.Worked.Worked}
-use Rattle.schedule.specs.{declared.prayer_times.Worked.TheVariants.Times, declared.prayer_times.Worked.TheVariants.Refused, Fajr.fajr_in}
+use Rattle.schedule.specs.{RowSuns.row_suns_of, RowSuns.row_suns_fajr_of}
+use Rattle.schedule.specs.{Fajr.fajr_in}
 use Rattle.weeks.specs.Report.{minute_in, row_minute}
-use Rattle.schedule.specs.declared.{prayer_times.FajrAlone.FajrAlone, rolling.RowSuns.RowSuns}
-use Rattle.weeks.specs.declared.minutes.Minute.TheVariants.{Some, Nothing}
-use Rattle.weeks.specs.Kept.{minute_from, minute_at}
+use Rattle.schedule.specs.declared.{rolling.RowSuns.RowSuns}
+use Rattle.weeks.specs.Kept.{minute_from, minute_in_list}
 use borrow.Author.Count.{below_more}
 
 -- ---- whole minutes, from whole days and the seconds after them
@@ -63,51 +64,37 @@ module _ (z : ℤ) (f : SFits w64 z) (d : ℤ) (n : ℕ) (k : read_back w64 d �
   minutes_read = (stored minutes (lit≤ tt)).is ∙ by_days z
 
 -- ---- the minute of a row of an order
-pub minute_is : (o : Order) (row : ℕ) (w : Worked) → minute_from (fajr_in (row_date_of o.date row) w) ≡ minute_in o row w
+pub minute_is : (o : Order) (row : ℕ) (w : Result PrayerTimes Refusal) → minute_from (fajr_in (row_date_of o.date row) w) ≡ minute_in o row w
 unfolding minute_from fajr_in minute_in
-minute_is o row (Times t) = refl
-minute_is o row (Refused r) = refl
+minute_is o row (Ok t) = refl
+minute_is o row (Err r) = refl
 
 pub state_minute : (o : Order) → Accepted o → (k : ℕ) → k < o.rows
     → minute_from (row_suns_fajr_of o.setting (state_of o k)) ≡ row_minute o k
 unfolding row_suns_of
 state_minute o a k h =
     ap minute_from (suns_fajr o.setting (state_of o k))
-    ∙ ap (λ (w : Worked). minute_from (fajr_in (row_date_of o.date k) w)) (state-worked o a k h)
+    ∙ ap (λ (w : Result PrayerTimes Refusal). minute_from (fajr_in (row_date_of o.date k) w)) (state-worked o a k h)
     ∙ minute_is o k (work_row_of o k)
 
--- ---- rows that are stored
-module _ (minutes : List ℤ) (refused : List Bool) (row : ℕ) (b : row < length refused) where
-  pub stored-minute : (z : ℤ) → row < length minutes → (k : ℕ)
-      → minute_at (set minutes row z) (set refused row false) k ≡ cond (eqb k row) (Some z) (minute_at minutes refused k)
-  unfolding minute_at
-  stored-minute z a k =
-      cases (eqb k row)
-      (λ t. simp (eqb-true k row t, eq-eqb row row refl, get_or-set_same refused row false false b, get_or-set_same minutes row z (pos 0) a))
-      (λ t. let other = eqb-false k row t in
-      simp (t, get_or-set_other refused row k false false other, get_or-set_other minutes row k z (pos 0) other))
+-- ---- rows that are kept. Before a row the suns are those of the row before it, or at first those of row 0.
+pub record Run (o : Order) (minutes : List (Option ℤ)) (suns : RowSuns) (row : ℕ) : Type 0 where
+  pub state : suns ≡ state_of o (row - 1)
+  pub long : length minutes ≡ 400
+  pub done : (k : ℕ) → k < row → minute_in_list minutes k ≡ row_minute o k
 
-  pub stored_refused : (k : ℕ) → minute_at minutes (set refused row true) k ≡ cond (eqb k row) Nothing (minute_at minutes refused k)
-  unfolding minute_at
-  stored_refused k =
-      cases (eqb k row) (λ t. simp (eqb-true k row t, eq-eqb row row refl, get_or-set_same refused row true false b))
-      (λ t. simp (t, get_or-set_other refused row k true false (eqb-false k row t)))
-
--- Before a row: `suns` are its suns, and the minutes of the earlier rows are stored.
-pub record Run (o : Order) (minutes : List ℤ) (refused : List Bool) (suns : RowSuns) (row : ℕ) : Type 0 where
-  pub within : row < o.rows
-  pub state : suns ≡ state_of o row
-  pub long : (length minutes ≡ 400) × (length refused ≡ 400)
-  pub done : (k : ℕ) → k < row → minute_at minutes refused k ≡ row_minute o k
-
--- after a row: its minute is stored too
-pub row_done : (o : Order) → Accepted o → (minutes after : List ℤ) (refused after' : List Bool) (suns : RowSuns) (row : ℕ)
-    → Run o minutes refused suns row → (fajr : FajrAlone) → fajr ≡ row_suns_fajr_of o.setting suns
-    → ((k : ℕ) → minute_at after after' k ≡ cond (eqb k row) (minute_from fajr) (minute_at minutes refused k))
-    → (k : ℕ) → k < row + 1 → minute_at after after' k ≡ row_minute o k
-row_done o a minutes after refused after' suns row r fajr f s =
-    below_more (λ (k : ℕ). minute_at after after' k ≡ row_minute o k) row
-    (λ k h. s k ∙ ap (λ (t : Bool). cond t (minute_from fajr) (minute_at minutes refused k)) (ne_eqb k row (λ e. omega arith)) ∙ r.done k h)
-    (s row ∙ ap (λ (t : Bool). cond t (minute_from fajr) (minute_at minutes refused row)) (eq-eqb row row refl)
-    ∙ ap minute_from (f ∙ ap (row_suns_fajr_of o.setting) r.state)
-    ∙ state_minute o a row r.within)
+-- after a row: its minute is kept too
+pub row_done : (o : Order) → Accepted o → (kept : List (Option ℤ)) (suns : RowSuns) (row : ℕ) → row < o.rows → suns ≡ state_of o row
+    → length kept ≡ 400 → ((k : ℕ) → k < row → minute_in_list kept k ≡ row_minute o k)
+    → (minute : Option ℤ) → minute ≡ minute_from (row_suns_fajr_of o.setting suns) → Run o (set kept row minute) suns (row + 1)
+row_done o a kept suns row h state long done minute is =
+    let room : row < length kept = omega (arith, a.rows.1) in
+    let e : row ≡ row + 1 - 1 = omega arith in
+    record {
+      state = state ∙ ap (state_of o) e;
+      long = length-set kept row minute ∙ long;
+      done = below_more (λ (k : ℕ). minute_in_list (set kept row minute) k ≡ row_minute o k) row
+          (λ k b. get_or-set_other kept row k minute None (λ e. omega arith) ∙ done k b)
+          (get_or-set_same kept row minute None room ∙ is ∙ ap (λ (s : RowSuns). minute_from (row_suns_fajr_of o.setting s)) state
+          ∙ state_minute o a row h);
+    }

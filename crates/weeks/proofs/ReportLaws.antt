@@ -1,51 +1,68 @@
 -- Windows and lines depend only on the rows that they look at; and how long lines can be. Assumes nothing.
-use Rattle.prelude.proofs.Logic.{◌≡◌, refl, ap, ◌∙◌, List, [], ◌∷◌, ℕ, zero, suc, ◌+◌, ◌-◌, ◌*◌, ◌/◌, ◌≤◌, ◌<◌, add-one, arith, ltb}
-use Rattle.prelude.proofs.Logic.{length, length-append, lt-ltb, arms, ℤ}
+use Rattle.std.specs.Prelude.{None, Option, Some}
+use Rattle.weeks.specs.declared.window.Extremes.{Extremes}
+use Rattle.prelude.proofs.Logic.{◌≡◌, refl, sym, ap, ◌∙◌, List, [], ◌∷◌, ℕ, zero, suc, ◌+◌, ◌-◌, ◌*◌, ◌/◌, ◌≤◌, ◌<◌, add-one, arith, ltb}
+use Rattle.prelude.proofs.Logic.{length, length-append, lt-ltb, arms, ℤ, true, false, lt_z, take, get_or-take}
 use Rattle.text.proofs.{SignedLaws.signed_length, TextLaws.put_next}
 use Rattle.text.specs.Text.{digit_of, digits_of, decimal_of, put_of, front_of}
-use Rattle.weeks.specs.declared.{minutes.Minute.Minute, window.Window.Window}
-use Rattle.weeks.specs.declared.window.Window.TheVariants.{Found, Refused}
 use Rattle.weeks.specs.Lines.{pair_text, line_of, lines_of, report_of}
 use Rattle.weeks.specs.{Meaning.Answers, Report.longest_week}
-use Rattle.weeks.specs.Windows.{begin_of, seen_of, look_of, window_of}
+use Rattle.weeks.specs.Kept.{minute_in_list}
+use Rattle.weeks.specs.Windows.{begin_of, earlier_in, extremes, later_in, seen_of, look_of, window_of}
 use Rattle.weeks.proofs.MeaningLaws.{window_answers}
 
 -- ---- a window while it is looked through
-pub record Looking (f : ℕ → Minute) (first : ℕ) (w : Window) (row : ℕ) : Type 0 where
+pub record Looking (f : ℕ → Option ℤ) (first : ℕ) (w : Option Extremes) (row : ℕ) : Type 0 where
   pub left : ℕ
   pub to : row + left ≡ first + 7
   pub is : look_of f w row left ≡ window_of f first
 
-module _ (f : ℕ → Minute) (first : ℕ) where
+module _ (f : ℕ → Option ℤ) (first : ℕ) where
   pub look-first : Looking f first (begin_of first (f first)) (first + 1)
   unfolding window_of
   look-first = record { left = 6; to = omega arith; is = refl }
 
-  pub look-next : (w : Window) (row : ℕ) → Looking f first w row → row < first + 7 → Looking f first (seen_of w row (f row)) (row + 1)
+  pub look-next : (w : Option Extremes) (row : ℕ) → Looking f first w row → row < first + 7 → Looking f first (seen_of w row (f row)) (row + 1)
   look-next w row l h = by_left l.left l.to l.is
     where
       by_left : (k : ℕ) → row + k ≡ first + 7 → look_of f w row k ≡ window_of f first → Looking f first (seen_of w row (f row)) (row + 1)
       by_left zero e i = absurd (omega arith)
       by_left (suc k) e i = record { left = k; to = omega arith; is = i }
 
-  pub look-last : (w : Window) (row : ℕ) → Looking f first w row → first + 7 ≤ row → w ≡ window_of f first
+  pub look-last : (w : Option Extremes) (row : ℕ) → Looking f first w row → first + 7 ≤ row → w ≡ window_of f first
   look-last w row l h =
       let to = l.to in
       let none : 0 ≡ l.left = omega arith in
       ap (look_of f w row) none ∙ l.is
 
+  -- a refused row refuses the window
+  look_none : (row k : ℕ) → look_of f None row k ≡ None
+  look_none row zero = refl
+  look_none row (suc k) = look_none (row + 1) k
+
+  pub first-refused : f first ≡ None → None ≡ window_of f first
+  unfolding window_of
+  first-refused e = sym (rw e (look_none (first + 1) 6))
+
+  pub first-there : (m : ℤ) → f first ≡ Some m → Looking f first (Some (extremes m first m first)) (first + 1)
+  first-there m e = rw e at look-first
+
+  pub row-refused : (w : Option Extremes) (row : ℕ) → Looking f first w row → row < first + 7 → seen_of w row (f row) ≡ None
+      → None ≡ window_of f first
+  row-refused w row l h e = let n = rw e at (look-next w row l h) in sym (look_none (row + 1) n.left) ∙ n.is
+
 -- ---- rows that are the same give the same report
-module _ (f g : ℕ → Minute) (rows : ℕ) (same : (r : ℕ) → r < rows → f r ≡ g r) where
-  look-same : (w : Window) (row k : ℕ) → row + k ≤ rows → look_of f w row k ≡ look_of g w row k
+module _ (f g : ℕ → Option ℤ) (rows : ℕ) (same : (r : ℕ) → r < rows → f r ≡ g r) where
+  look-same : (w : Option Extremes) (row k : ℕ) → row + k ≤ rows → look_of f w row k ≡ look_of g w row k
   look-same w row zero h = refl
   look-same w row (suc k) h =
-      ap (λ (m : Minute). look_of f (seen_of w row m) (row + 1) k) (same row (omega arith))
+      ap (λ (m : Option ℤ). look_of f (seen_of w row m) (row + 1) k) (same row (omega arith))
       ∙ look-same (seen_of w row (g row)) (row + 1) k (omega arith)
 
   window_same : (first : ℕ) → first + 7 ≤ rows → window_of f first ≡ window_of g first
   unfolding window_of
   window_same first h =
-      ap (λ (m : Minute). look_of f (begin_of first m) (first + 1) 6) (same first (omega arith))
+      ap (λ (m : Option ℤ). look_of f (begin_of first m) (first + 1) 6) (same first (omega arith))
       ∙ look-same (begin_of first (g first)) (first + 1) 6 (omega arith)
 
   lines_same : (n : ℕ) → n ≤ rows - 6 → lines_of f n ≡ lines_of g n
@@ -74,17 +91,17 @@ pair_length : (z : ℤ) (row : ℕ) → row < 1000 → length (pair_text z row) 
 unfolding pair_text
 pair_length z row h = let s = signed_length z in let d = row_digits row h in simp length-append (omega arith)
 
-line_length_lem : (f : ℕ → Minute) (first next : ℕ) (w : Window) → next ≤ 1000 → first < next → Answers f first next w
+line_length_lem : (f : ℕ → Option ℤ) (first next : ℕ) (w : Option Extremes) → next ≤ 1000 → first < next → Answers f first next w
     → length (line_of first w) ≤ 56
 unfolding line_of
-line_length_lem f first next Refused h l a = let d = row_digits first (omega arith) in simp length-append (omega arith)
-line_length_lem f first next (Found x) h l a =
+line_length_lem f first next None h l a = let d = row_digits first (omega arith) in simp length-append (omega arith)
+line_length_lem f first next (Some x) h l a =
     let d = row_digits first (omega arith) in
     let e = pair_length x.earliest x.earliest_row (omega (arith, a.early.to)) in
     let g = pair_length x.latest x.latest_row (omega (arith, a.late.to)) in
     simp length-append (omega arith)
 
-pub lines_length : (f : ℕ → Minute) (n : ℕ) → n ≤ 900 → length (lines_of f n) ≤ 56 * n
+pub lines_length : (f : ℕ → Option ℤ) (n : ℕ) → n ≤ 900 → length (lines_of f n) ≤ 56 * n
 unfolding lines_of
 lines_length f zero h = omega arith
 lines_length f (suc n) h =
@@ -94,17 +111,17 @@ lines_length f (suc n) h =
     omega arith
 
 -- ---- the lines of the windows before `first` are at the buffer's front
-pub record Lined (f : ℕ → Minute) (rows : ℕ) (buffer now : List ℕ) (first end : ℕ) : Type 0 where
+pub record Lined (f : ℕ → Option ℤ) (rows : ℕ) (buffer now : List ℕ) (first end : ℕ) : Type 0 where
   pub within : first ≤ rows - 6
   pub text : now ≡ front_of (lines_of f first) buffer
   pub place : end ≡ length (lines_of f first)
   pub same : length now ≡ length buffer
 
-pub no_lines : (f : ℕ → Minute) (rows : ℕ) (buffer : List ℕ) → Lined f rows buffer buffer 0 0
+pub no_lines : (f : ℕ → Option ℤ) (rows : ℕ) (buffer : List ℕ) → Lined f rows buffer buffer 0 0
 unfolding lines_of
 no_lines f rows buffer = record { within = omega arith; text = refl; place = refl; same = refl }
 
-module _ (f : ℕ → Minute) (rows : ℕ) (most : rows ≤ 400) (buffer : List ℕ) (room : longest_week ≤ length buffer)
+module _ (f : ℕ → Option ℤ) (rows : ℕ) (most : rows ≤ 400) (buffer : List ℕ) (room : longest_week ≤ length buffer)
     (now : List ℕ) (first end : ℕ) (l : Lined f rows buffer now first end) (more : first + 6 < rows) where
   pub line-room : end + length (line_of first (window_of f first)) ≤ length now
   line-room =
@@ -112,7 +129,7 @@ module _ (f : ℕ → Minute) (rows : ℕ) (most : rows ≤ 400) (buffer : List 
       let w = line_length_lem f first (first + 7) (window_of f first) (omega arith) (omega arith) (window_answers f first) in
       omega (arith, l.place, l.same)
 
-  pub lined-next : (w : Window) → w ≡ window_of f first → (after : List ℕ) (n : ℕ) → length after ≡ length now
+  pub lined-next : (w : Option Extremes) → w ≡ window_of f first → (after : List ℕ) (n : ℕ) → length after ≡ length now
       → (n ≡ end + length (line_of first w)) × (after ≡ put_of now end (line_of first w)) → Lined f rows buffer after (first + 1) n
   unfolding lines_of
   lined-next w is after n k put =
@@ -128,3 +145,25 @@ module _ (f : ℕ → Minute) (rows : ℕ) (most : rows ≤ 400) (buffer : List 
         place = rw (add-one first) (omega (arith, p.0));
         same = k ∙ same;
       }
+
+-- ---- one row more, by the tests of the code
+module _ (x : Extremes) (row : ℕ) (m : ℤ) where
+  pub earlier_yes : lt_z m x.earliest ≡ true → extremes m row x.latest x.latest_row ≡ earlier_in x row m
+  unfolding earlier_in
+  earlier_yes h = simp h
+
+  pub earlier_no : lt_z m x.earliest ≡ false → x ≡ earlier_in x row m
+  unfolding earlier_in
+  earlier_no h = simp h
+
+  pub later_yes : lt_z x.latest m ≡ true → extremes x.earliest x.earliest_row m row ≡ later_in x row m
+  unfolding later_in
+  later_yes h = simp h
+
+  pub later_no : lt_z x.latest m ≡ false → x ≡ later_in x row m
+  unfolding later_in
+  later_no h = simp h
+
+-- ---- the minutes of the first rows
+pub minute_take : (kept : List (Option ℤ)) (n k : ℕ) → k < n → minute_in_list (take n kept) k ≡ minute_in_list kept k
+minute_take kept n k h = get_or-take n kept k None h

@@ -1,14 +1,10 @@
 -- Document 02, request 11: "the earliest and latest Fajr by the clock .. and the first row having each", as a property of the rows.
-use Rattle.std.specs.Prelude.{ℕ, ◌≤◌, ◌<◌, ◌≡◌, Bool, true, false, ℤ}
+use Rattle.std.specs.Prelude.{ℕ, ◌≤◌, ◌<◌, ◌≡◌, Bool, true, false, ℤ, None, Option, Some}
 use Rattle.std.specs.Int.Signed.{lt_z}
-use Rattle.weeks.specs.declared.minutes.Minute.{Minute}
-use Rattle.weeks.specs.declared.minutes.Minute.TheVariants.{Some, Nothing}
 use Rattle.weeks.specs.declared.window.Extremes.{Extremes}
-use Rattle.weeks.specs.declared.window.Window.{Window}
-use Rattle.weeks.specs.declared.window.Window.TheVariants.{Found, Refused}
 
 -- among the rows from `first` to before `next`, `row` has `minute`: no row's is before it, and it is before that of each earlier row
-pub record Best (before : ℤ → ℤ → Bool) (f : ℕ → Minute) (first next : ℕ) (minute : ℤ) (row : ℕ) : Type 0 where
+pub record Best (before : ℤ → ℤ → Bool) (f : ℕ → Option ℤ) (first next : ℕ) (minute : ℤ) (row : ℕ) : Type 0 where
   pub from : first ≤ row
   pub to : row < next
   pub there : f row ≡ Some minute
@@ -21,18 +17,18 @@ earlier x y = lt_z x y
 abbrev pub later : ℤ → ℤ → Bool
 later x y = lt_z y x
 
-pub record SomeRefused (f : ℕ → Minute) (first next : ℕ) : Type 0 where
+pub record SomeRefused (f : ℕ → Option ℤ) (first next : ℕ) : Type 0 where
   pub row : ℕ
   pub from : first ≤ row
   pub to : row < next
-  pub is : f row ≡ Nothing
+  pub is : f row ≡ None
 
-pub record RightWindow (f : ℕ → Minute) (first next : ℕ) (x : Extremes) : Type 0 where
-  pub none_refused : (r : ℕ) → r < next → first ≤ r → f r ≡ Nothing → ⊥
+pub record RightWindow (f : ℕ → Option ℤ) (first next : ℕ) (x : Extremes) : Type 0 where
+  pub none_refused : (r : ℕ) → r < next → first ≤ r → f r ≡ None → ⊥
   pub early : Best earlier f first next x.earliest x.earliest_row
   pub late : Best later f first next x.latest x.latest_row
 
 -- a window is refused and one of its rows is, or it has the right rows and none is refused
-abbrev pub Answers : (ℕ → Minute) → ℕ → ℕ → Window → Type 0
-Answers f first next Refused = SomeRefused f first next
-Answers f first next (Found x) = RightWindow f first next x
+abbrev pub Answers : (ℕ → Option ℤ) → ℕ → ℕ → Option Extremes → Type 0
+Answers f first next None = SomeRefused f first next
+Answers f first next (Some x) = RightWindow f first next x

@@ -1,25 +1,23 @@
 -- Document 02, request 11: the report of an order, on any bytes.
-use Rattle.std.specs.Prelude.{ℕ, ◌-◌, ◌*◌, List, ◌-ℤ◌}
+use Rattle.schedule.specs.declared.prayer_times.PrayerTimes.{PrayerTimes}
+use Rattle.refusals.specs.declared.Refusal.{Refusal}
+use Rattle.std.specs.Prelude.{ℕ, ◌-◌, ◌*◌, List, ◌-ℤ◌, Err, None, Ok, Option, Result, Some, ℤ}
 use Rattle.calendar.specs.Answers.{row_date_of}
 use Rattle.days.specs.Calls.{work_row_of}
 use Rattle.integers.specs.Quotients.{floor_quot}
 use Rattle.order.specs.declared.reading.Order.{Order}
 use Rattle.order.specs.Ranges.{most_rows}
 use Rattle.reports.specs.Reports.{report_text}
-use Rattle.schedule.specs.declared.prayer_times.Worked.{Worked}
-use Rattle.schedule.specs.declared.prayer_times.Worked.TheVariants as worked
 use Rattle.schedule.specs.Times.{start_of}
-use Rattle.weeks.specs.declared.minutes.Minute.{Minute}
-use Rattle.weeks.specs.declared.minutes.Minute.TheVariants.{Some, Nothing}
 use Rattle.weeks.specs.Lines.{report_of}
 
 -- "Fajr by the clock, in minutes after the row's own 0h UTC .. The minute is the second count divided by 60 and rounded down, also below
 -- zero." Tag 16 has no part in it.
-unfoldable pub minute_in : Order → ℕ → Worked → Minute
-minute_in o row (worked.Times t) = Some (floor_quot (t.fajr -ℤ start_of (row_date_of o.date row)) 60)
-minute_in o row (worked.Refused r) = Nothing
+unfoldable pub minute_in : Order → ℕ → Result PrayerTimes Refusal → Option ℤ
+minute_in o row (Ok t) = Some (floor_quot (t.fajr -ℤ start_of (row_date_of o.date row)) 60)
+minute_in o row (Err r) = None
 
-abbrev pub row_minute : Order → ℕ → Minute
+abbrev pub row_minute : Order → ℕ → Option ℤ
 row_minute o row = minute_in o row (work_row_of o row)
 
 abbrev pub orders_report : Order → List ℕ

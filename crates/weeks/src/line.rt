@@ -3,7 +3,7 @@ ghost use Rattle.std.specs.Prelude.{◌≡◌, ◌+◌, ◌≤◌, length};
 ghost use Rattle.text.specs.Text.{put_of};
 ghost use Rattle.weeks.specs.Lines.{pair_text, line_of};
 
-use super::window::Window;
+use crate::window::Extremes;
 use text::decimal::put_decimal;
 use text::put::put;
 use text::signed::put_signed;
@@ -14,30 +14,30 @@ fn put_pair(buffer: &mut [u8], at: usize, minute: i64, row: usize) -> usize
     ensures value { result ≡ at + length (pair_text minute row) }
     ensures buffer_after { buffer.new ≡ put_of buffer.old at (pair_text minute row) }
 {
-    put(&mut buffer[..], at, b" ");
+    put(buffer, at, b" ");
     let end = at + 1;
-    let end = end + put_signed(&mut buffer[..], end, minute);
-    put(&mut buffer[..], end, b" ");
+    let end = end + put_signed(buffer, end, minute);
+    put(buffer, end, b" ");
     let end = end + 1;
-    end + put_decimal(&mut buffer[..], end, row as u64)
+    end + put_decimal(buffer, end, row as u64)
 }
 
 // Writes the line of the window that starts at row `first`. Returns where it ends.
-pub fn put_window(buffer: &mut [u8], at: usize, first: usize, window: Window) -> usize
+pub fn put_window(buffer: &mut [u8], at: usize, first: usize, window: Option<Extremes>) -> usize
     requires { at + length (line_of first window) ≤ length buffer.old }
     ensures value { result ≡ at + length (line_of first window) }
     ensures buffer_after { buffer.new ≡ put_of buffer.old at (line_of first window) }
 {
-    let end = at + put_decimal(&mut buffer[..], at, first as u64);
+    let end = at + put_decimal(buffer, at, first as u64);
     match window {
-        Window::Found(found) => {
-            let end = put_pair(&mut buffer[..], end, found.earliest, found.earliest_row);
-            let end = put_pair(&mut buffer[..], end, found.latest, found.latest_row);
-            put(&mut buffer[..], end, b"\n");
+        Some(found) => {
+            let end = put_pair(buffer, end, found.earliest, found.earliest_row);
+            let end = put_pair(buffer, end, found.latest, found.latest_row);
+            put(buffer, end, b"\n");
             end + 1
         }
-        Window::Refused => {
-            put(&mut buffer[..], end, b" refused\n");
+        None => {
+            put(buffer, end, b" refused\n");
             end + 9
         }
     }

@@ -4,15 +4,15 @@ ghost use Rattle.order.specs.Accepted.{Accepted};
 ghost use Rattle.order.specs.Ranges.{most_rows};
 ghost use Rattle.text.specs.Printed.{printed_of};
 ghost use Rattle.text.specs.Text.{front_of};
-ghost use Rattle.weeks.specs.Kept.{minute_at};
+ghost use Rattle.weeks.specs.Kept.{minute_in_list};
 ghost use Rattle.weeks.specs.Lines.{report_of};
 ghost use Rattle.weeks.specs.Report.{orders_report, week_text, longest_week};
 
 use super::line::put_window;
-use super::minutes::{ROWS, work_minutes};
-use super::window::Window;
+use super::minutes::{ROWS, minutes_of};
+use super::window::window_from;
 use lines::refused::put_refused_order;
-use order::reading::{Order, Reading, read};
+use order::reading::{Order, read};
 
 // Three digits of the first row; twice a blank, a minute, a blank and a row; and a newline.
 const LINE_BYTES: usize = 56;
@@ -21,22 +21,14 @@ const LINE_BYTES: usize = 56;
 pub const WEEK_BYTES: usize = LINE_BYTES * (ROWS - 6);
 
 // Writes a line for every row that has six rows after it. Returns where the lines end.
-fn put_windows(
-    buffer: &mut [u8],
-    minutes: &[i64; ROWS],
-    refused: &[bool; ROWS],
-    rows: usize,
-) -> usize
-    requires { (rows ≤ most_rows) × (longest_week ≤ length buffer.old) }
-    ensures value { result ≡ length (report_of (minute_at minutes.now refused.now) rows) }
-    ensures buffer_after { buffer.new ≡ front_of (report_of (minute_at minutes.now refused.now) rows) buffer.old }
+fn put_windows(buffer: &mut [u8], minutes: &[Option<i64>]) -> usize
+    requires { (length minutes.now ≤ most_rows) × (longest_week ≤ length buffer.old) }
+    ensures value { result ≡ length (report_of (minute_in_list minutes.now) (length minutes.now)) }
+    ensures buffer_after { buffer.new ≡ front_of (report_of (minute_in_list minutes.now) (length minutes.now)) buffer.old }
 {
-    let mut first = 0;
     let mut end = 0;
-    while first + 6 < rows {
-        let window = Window::new(minutes, refused, first);
-        end = put_window(&mut buffer[..], end, first, window);
-        first = first + 1;
+    for first in 0..minutes.len().saturating_sub(6) {
+        end = put_window(buffer, end, first, window_from(minutes, first));
     }
     end
 }
@@ -46,10 +38,7 @@ fn put_report(buffer: &mut [u8], order: Order) -> usize
     ensures value { result ≡ length (orders_report order) }
     ensures buffer_after { buffer.new ≡ front_of (orders_report order) buffer.old }
 {
-    let mut minutes = [0i64; ROWS];
-    let mut refused = [false; ROWS];
-    work_minutes(order, &mut minutes, &mut refused);
-    put_windows(&mut buffer[..], &minutes, &refused, order.rows as usize)
+    put_windows(buffer, &minutes_of(order)[..order.rows as usize])
 }
 
 // Returns the length of the text, which may be 0. If the buffer is shorter than WEEK_BYTES, the longest text, it stays as it is and 0 is
@@ -62,7 +51,7 @@ pub fn write_week(order: &[u8], buffer: &mut [u8]) -> usize
         return 0;
     }
     match read(order) {
-        Reading::Read(order) => put_report(&mut buffer[..], order),
-        Reading::Refused(refusal) => put_refused_order(&mut buffer[..], 0, refusal),
+        Ok(order) => put_report(buffer, order),
+        Err(refusal) => put_refused_order(buffer, 0, refusal),
     }
 }

@@ -1,10 +1,7 @@
 // The earliest and the latest Fajr of seven successive rows, and the first row that has each. The rows are looked through one by one.
-ghost use Rattle.std.specs.Prelude.{◌≡◌, ◌+◌, ◌≤◌};
-ghost use Rattle.order.specs.Ranges.{most_rows};
-ghost use Rattle.weeks.specs.Kept.{minute_at};
-ghost use Rattle.weeks.specs.Windows.{begin_of, earlier_in, later_in, seen_of, window_of};
-
-use super::minutes::{Minute, ROWS, minute_at};
+ghost use Rattle.std.specs.Prelude.{◌≡◌, ◌+◌, ◌≤◌, length};
+ghost use Rattle.weeks.specs.Kept.{minute_in_list};
+ghost use Rattle.weeks.specs.Windows.{earlier_in, extremes, later_in, window_of};
 
 #[derive(Clone, Copy)]
 pub struct Extremes {
@@ -14,79 +11,43 @@ pub struct Extremes {
     pub latest_row: usize,
 }
 
-// Refused if one of its seven days is.
-#[derive(Clone, Copy)]
-pub enum Window {
-    Found(Extremes),
-    Refused,
-}
-
 impl Extremes {
-    fn with_earliest(self, row: usize, minute: i64) -> Extremes
-        ensures { result ≡ earlier_in self row minute }
+    // Those of a window's first row by itself.
+    fn new(row: usize, minute: i64) -> Extremes
+        ensures { result ≡ extremes minute row minute row }
+    {
+        Extremes {
+            earliest: minute,
+            earliest_row: row,
+            latest: minute,
+            latest_row: row,
+        }
+    }
+
+    // Those of one row more.
+    fn with(mut self, row: usize, minute: i64) -> Extremes
+        ensures { result ≡ later_in (earlier_in self row minute) row minute }
     {
         if minute < self.earliest {
-            let mut found = self;
-            found.earliest = minute;
-            found.earliest_row = row;
-            return found;
+            self.earliest = minute;
+            self.earliest_row = row;
         }
-        self
-    }
-
-    fn with_latest(self, row: usize, minute: i64) -> Extremes
-        ensures { result ≡ later_in self row minute }
-    {
         if self.latest < minute {
-            let mut found = self;
-            found.latest = minute;
-            found.latest_row = row;
-            return found;
+            self.latest = minute;
+            self.latest_row = row;
         }
         self
     }
 }
 
-impl Window {
-    // The window after its first row.
-    fn begin(row: usize, minute: Minute) -> Window
-        ensures { result ≡ begin_of row minute }
-    {
-        match minute {
-            Minute::Some(m) => Window::Found(Extremes {
-                earliest: m,
-                earliest_row: row,
-                latest: m,
-                latest_row: row,
-            }),
-            Minute::Nothing => Window::Refused,
-        }
+// The window of the seven rows from `first` on.
+pub fn window_from(minutes: &[Option<i64>], first: usize) -> Option<Extremes>
+    requires { first + 7 ≤ length minutes.now }
+    ensures { result ≡ window_of (minute_in_list minutes.now) first }
+{
+    let mut window = Extremes::new(first, minutes[first]?);
+    for row in first + 1..first + 7 {
+        window = window.with(row, minutes[row]?);
     }
-
-    // The window after one row more.
-    fn seen(self, row: usize, minute: Minute) -> Window
-        ensures { result ≡ seen_of self row minute }
-    {
-        match self {
-            Window::Found(found) => match minute {
-                Minute::Some(m) => Window::Found(found.with_earliest(row, m).with_latest(row, m)),
-                Minute::Nothing => Window::Refused,
-            },
-            Window::Refused => Window::Refused,
-        }
-    }
-
-    // The window of the seven rows from `first` on.
-    pub fn new(minutes: &[i64; ROWS], refused: &[bool; ROWS], first: usize) -> Window
-        requires { first + 7 ≤ most_rows }
-        ensures { result ≡ window_of (minute_at minutes.now refused.now) first }
-    {
-        let mut window = Window::begin(first, minute_at(minutes, refused, first));
-        let mut row = first + 1;
-        while row < first + 7 {
-            window = window.seen(row, minute_at(minutes, refused, row));
-            row = row + 1;
-        }
-        window
-    }
+    Some(window)
 }

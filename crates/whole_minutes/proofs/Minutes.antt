@@ -1,64 +1,12 @@
--- The second of the minute, what rounding adds, and minutes as two halves, as the code computes them. Assumes nothing.
-use Rattle.prelude.proofs.Logic.{◌≡◌, refl, ap, ◌∙◌, true, false, ℕ, suc, ◌-◌, ◌%◌, ◌≤◌, arith, T, lit<, ℤ, pos, negsuc, neg_ℤ, nat_abs}
-use Rattle.prelude.proofs.Logic.{◌+ℤ◌, ◌-ℤ◌, ◌*ℤ◌, lt_z, le_z, quot_z, rem_z, non_neg, w32, w64, SFits, Fits, to_z}
-use Rattle.integers.proofs.Integers.{same, sum, difference, times, flip, divided, floored, le_yes, lt_yes, lt_no, read_back, read, range}
+-- What rounding adds, and minutes as two halves, as the code computes them. Assumes nothing.
+use Rattle.prelude.proofs.Logic.{◌≡◌, ap, ◌∙◌, true, false, ℕ, ◌≤◌, arith, ℤ, pos, negsuc}
+use Rattle.prelude.proofs.Logic.{◌+ℤ◌, ◌-ℤ◌, ◌*ℤ◌, lt_z, w32, w64, SFits, Fits, to_z}
+use Rattle.integers.proofs.Integers.{same, sum, difference, times, lt_yes, lt_no, read_back, read, range}
 use Rattle.integers.proofs.Integers.{fits}
 use Rattle.integers.specs.Ends.{least64, most64}
-use Rattle.whole_minutes.specs.Times.{sat_of, second_of, adjusted_of}
+use Rattle.whole_minutes.specs.Times.{sat_of, adjusted_of}
 use Rattle.whole_minutes.proofs.TimesLaws.{between}
 use Rattle.whole_minutes.proofs.Saturation.{sat_high, sat_low, sat-twice}
-
--- ---- the second
-abbrev rem : ℤ → ℤ
-rem t = rem_z t (pos 60)
-
-rem_up : (t : ℤ) → lt_z (rem t) (pos 0) ≡ true → rem t +ℤ pos 60 ≡ pos (second_of t)
-rem_up (pos n) h = absurd (omega (arith, lt_yes (pos (n % 60)) (pos 0) h))
-rem_up (negsuc n) h =
-    let f = flip (pos (suc n % 60)) in
-    let s = sum (neg_ℤ (pos (suc n % 60))) (pos 60) in
-    same (neg_ℤ (pos (suc n % 60)) +ℤ pos 60) (pos (60 - 1 - n % 60)) (omega (arith, lt_yes (neg_ℤ (pos (suc n % 60))) (pos 0) h))
-
-rem_is : (t : ℤ) → lt_z (rem t) (pos 0) ≡ false → rem t ≡ pos (second_of t)
-rem_is (pos n) h = ap pos (omega arith)
-rem_is (negsuc n) h =
-    same (neg_ℤ (pos (suc n % 60))) (pos (60 - 1 - n % 60))
-    (omega (arith, flip (pos (suc n % 60)), lt_no (neg_ℤ (pos (suc n % 60))) (pos 0) h))
-
-module _ (t : ℤ) (h : SFits w64 t) where
-  rt : read_back w64 t ≡ t
-  rt = read w64 t h
-
-  pub quot_fits : SFits w64 (quot_z (read_back w64 t) (pos 60))
-  quot_fits = let d = divided t 60 (lit< tt) in let r = range w64 t h in rw rt (fits w64 (quot_z t (pos 60)) (omega arith) (omega arith))
-
-  -- the remainder, as the code holds it
-  abbrev held : ℤ
-  held = read_back w64 (rem (read_back w64 t))
-
-  rr : held ≡ rem t
-  rr = let d = divided t 60 (lit< tt) in rw rt (read w64 (rem t) (fits w64 (rem t) (omega arith) (omega arith)))
-
-  pub up_fits : SFits w64 (held +ℤ pos 60)
-  up_fits =
-      let d = divided t 60 (lit< tt) in
-      let s = sum (rem t) (pos 60) in
-      rw rr (fits w64 (rem t +ℤ pos 60) (omega arith) (omega arith))
-
-  pub negative : lt_z held (pos 0) ≡ true → read_back w64 (held +ℤ pos 60) ≡ pos (second_of t)
-  negative l = read w64 (held +ℤ pos 60) up_fits ∙ rw rr (rem_up t (rw rr at l))
-
-  pub positive : lt_z held (pos 0) ≡ false → held ≡ pos (second_of t)
-  positive l = rr ∙ rem_is t (rw rr at l)
-
-pub as_u32 : (t x : ℤ) → x ≡ pos (second_of t) → T (non_neg x) × Fits w32 (nat_abs x)
-as_u32 t x e = let l = floored t 60 (lit< tt) in rw e (tt, record { fits = omega arith })
-
--- a time from 0 on, in the range that the code's two tests leave
-pub fits_32_bits : (x : ℤ) → le_z (pos 0) x ≡ true → le_z x (pos 4294967000) ≡ true
-    → (T (non_neg x) × Fits w32 (nat_abs x)) × ((pos (nat_abs x) ≡ x) × (nat_abs x ≤ 4294967000))
-fits_32_bits (pos n) from to = let b = le_yes (pos n) (pos 4294967000) to in ((tt, record { fits = omega arith }), (refl, omega arith))
-fits_32_bits (negsuc n) from to = absurd (omega (arith, le_yes (pos 0) (negsuc n) from))
 
 -- ---- what rounding adds: k less the second
 pub less_fits : (k s : ℕ) → k ≤ 60 → Fits w32 s → SFits w64 (pos k -ℤ to_z w64 s)

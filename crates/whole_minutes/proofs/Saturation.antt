@@ -1,7 +1,8 @@
 -- When a sum of two i64 saturates, and when it fits. Assumes nothing.
-use Rattle.prelude.proofs.Logic.{◌≡◌, sym, ◌∙◌, true, false, ◌+◌, ◌<◌, arith, ℤ, pos, ◌+ℤ◌, ◌-ℤ◌, le_z, lt_z, w64, SFits, cases}
-use Rattle.integers.proofs.Integers.{P, N, not_negative, not_positive, sum, difference, le_yes, le_no, lt_yes, lt_no, to_lt, to_not_lt}
-use Rattle.integers.proofs.Integers.{read_back, read, range}
+use Rattle.prelude.proofs.Logic.{◌≡◌, sym, ◌∙◌, true, false, ◌+◌, ◌<◌, arith, ℤ, pos, ◌+ℤ◌, lt_z, w64, SFits, cases, ap, negsuc, leb, leb-true, leb-false, min-eq_left, min-eq_right, le_of_lt}
+use Rattle.integers.proofs.Integers.{P, N, sum, lt_yes, lt_no, to_lt, to_not_lt}
+use Rattle.integers.proofs.Integers.{range}
+use Rattle.std.specs.Int.{saturate_signed}
 use Rattle.integers.specs.Ends.{least64, most64}
 use Rattle.whole_minutes.specs.Times.{sat_of}
 use Rattle.whole_minutes.proofs.TimesLaws.{between, sat_in}
@@ -14,74 +15,18 @@ pub sat_low : (z : ℤ) → N least64 + P z < N z → least64 ≡ sat_of z
 unfolding sat_of
 sat_low z h = rw (to_not_lt most64 z (omega arith), to_lt z least64 (omega arith))
 
--- the code of `plus`, whose operands are read back from their bits
-module _ (a b : ℤ) (ha : SFits w64 a) (hb : SFits w64 b) where
-  abbrev a' : ℤ
-  a' = read_back w64 a
-
-  abbrev b' : ℤ
-  b' = read_back w64 b
-
-  ra : a' ≡ a
-  ra = read w64 a ha
-
-  rb : b' ≡ b
-  rb = read w64 b hb
-
-  pub added : SFits w64 (a' +ℤ b') → read_back w64 (a' +ℤ b') ≡ sat_of (a +ℤ b)
-  added f = let s = rw (ra, rb) at f in rw (ra, rb) (read w64 (a +ℤ b) s ∙ sym (sat_in (a +ℤ b) s))
-
-  -- b is not negative
-  module _ (t : le_z (pos 0) b' ≡ true) where
-    up : N b ≡ 0
-    up = let l = le_yes (pos 0) b (rw rb at t) in not_negative b (omega arith)
-
-    room : SFits w64 (most64 -ℤ b)
-    room = let u = up in let r = range w64 b hb in let d = difference most64 b in
-        between (most64 -ℤ b) (omega (arith, d.0, d.1)) (omega (arith, d.0, d.1))
-
-    pub room_fits : SFits w64 (most64 -ℤ b')
-    room_fits = rw rb room
-
-    pub over : lt_z (read_back w64 (most64 -ℤ b')) a' ≡ true → most64 ≡ sat_of (a +ℤ b)
-    over l =
-        let k = lt_yes (most64 -ℤ b) a (rw (ra, rb, read w64 (most64 -ℤ b) room) at l) in
-        sat_high (a +ℤ b) (omega (arith, sum a b, (difference most64 b).0, (difference most64 b).1))
-
-    pub in-fits : lt_z (read_back w64 (most64 -ℤ b')) a' ≡ false → SFits w64 (a' +ℤ b')
-    in-fits l =
-        let k = lt_no (most64 -ℤ b) a (rw (ra, rb, read w64 (most64 -ℤ b) room) at l) in
-        let d = difference most64 b in
-        let s = sum a b in
-        let r = range w64 a ha in
-        let u = up in
-        rw (ra, rb) (between (a +ℤ b) (omega (arith, d.0, d.1)) (omega (arith, d.0, d.1)))
-
-  -- b is negative
-  module _ (t : le_z (pos 0) b' ≡ false) where
-    down : P b ≡ 0
-    down = let l = le_no (pos 0) b (rw rb at t) in not_positive b (omega arith)
-
-    room' : SFits w64 (least64 -ℤ b)
-    room' = let u = down in let r = range w64 b hb in let d = difference least64 b in
-        between (least64 -ℤ b) (omega (arith, d.0, d.1)) (omega (arith, d.0, d.1))
-
-    pub room-fits' : SFits w64 (least64 -ℤ b')
-    room-fits' = rw rb room'
-
-    pub under : lt_z a' (read_back w64 (least64 -ℤ b')) ≡ true → least64 ≡ sat_of (a +ℤ b)
-    under l =
-        let k = lt_yes a (least64 -ℤ b) (rw (ra, rb, read w64 (least64 -ℤ b) room') at l) in
-        sat_low (a +ℤ b) (omega (arith, sum a b, (difference least64 b).0, (difference least64 b).1))
-
-    pub in-fits' : lt_z a' (read_back w64 (least64 -ℤ b')) ≡ false → SFits w64 (a' +ℤ b')
-    in-fits' l =
-        let k = lt_no a (least64 -ℤ b) (rw (ra, rb, read w64 (least64 -ℤ b) room') at l) in
-        let d = difference least64 b in
-        let s = sum a b in
-        let r = range w64 a ha in
-        let u = down in
-        rw (ra, rb) (between (a +ℤ b) (omega (arith, d.0, d.1)) (omega (arith, d.0, d.1)))
+-- std's saturated sum
+pub saturated : (z : ℤ) → saturate_signed w64 z ≡ sat_of z
+saturated (pos n) =
+    cases (leb n 9223372036854775807)
+    (λ e. let l = leb-true n 9223372036854775807 e in
+    ap pos (min-eq_left l) ∙ sym (sat_in (pos n) (record { sfits = omega arith })))
+    (λ e. let l = leb-false n 9223372036854775807 e in ap pos (min-eq_right (le_of_lt l)) ∙ sat_high (pos n) (omega arith))
+saturated (negsuc n) =
+    cases (leb n 9223372036854775807)
+    (λ e. let l = leb-true n 9223372036854775807 e in
+    ap negsuc (min-eq_left l) ∙ sym (sat_in (negsuc n) (record { sfits = omega arith })))
+    (λ e. let l = leb-false n 9223372036854775807 e in ap negsuc (min-eq_right (le_of_lt l)) ∙ sat_low (negsuc n) (omega arith))
 
 -- a saturated sum stays at that end of the range if a number of the same sign is added
 module _ (t h : ℤ) (f : SFits w64 t) where

@@ -5,34 +5,23 @@ ghost use Rattle.whole_minutes.specs.Times.{sat_of, second_of, shift_of, rounded
 
 use models::rounding::Rounding;
 
-const MOST64: i64 = 9223372036854775807;
-
-const LEAST64: i64 = -9223372036854775808;
-
 // A minute more is still below 2^32.
 const MOST_SHORT: i64 = 4294967000;
+
+// Beyond 2^64 / 60 minutes no time stays in range.
+const MOST_MINUTES: i64 = 307445734561825860;
 
 // The sum, as chrono's checked_add_signed gives it in its range.
 pub fn plus(a: i64, b: i64) -> i64
     ensures { result ≡ sat_of (a +ℤ b) }
 {
-    if b >= 0 {
-        if a > MOST64 - b {
-            return MOST64;
-        }
-        return a + b;
-    }
-    if a < LEAST64 - b {
-        return LEAST64;
-    }
-    a + b
+    a.saturating_add(b)
 }
 
 pub fn second(t: i64) -> u32
     ensures { result ≡ second_of t }
 {
-    let r = t % 60;
-    if r < 0 { (r + 60) as u32 } else { r as u32 }
+    t.rem_euclid(60) as u32
 }
 
 fn shift(rounding: Rounding, s: u32) -> i64
@@ -40,12 +29,7 @@ fn shift(rounding: Rounding, s: u32) -> i64
 {
     let n = s as i64;
     match rounding {
-        Rounding::Nearest => {
-            if s < 30 {
-                return 0 - n;
-            }
-            60 - n
-        }
+        Rounding::Nearest => if s < 30 { -n } else { 60 - n },
         Rounding::Up => 60 - n,
         Rounding::None => 0,
     }
@@ -67,23 +51,21 @@ fn rounded_short(t: u32, rounding: Rounding) -> u32
 pub fn rounded_minute(t: i64, rounding: Rounding) -> i64
     ensures { result ≡ sat_of (rounded_of rounding t) }
 {
-    if t >= 0 {
-        if t <= MOST_SHORT {
-            return rounded_short(t as u32, rounding) as i64;
-        }
+    if (0..=MOST_SHORT).contains(&t) {
+        return rounded_short(t as u32, rounding) as i64;
     }
     plus(t, shift(rounding, second(t)))
 }
 
-// Beyond 2^64 / 60 minutes no time stays in range. Up to there an i64 holds half of the seconds, but maybe not all: half is added twice.
+// Up to MOST_MINUTES an i64 holds half of the seconds, but maybe not all: half is added twice.
 pub fn adjust_time(t: i64, minutes: i64) -> i64
     ensures { result ≡ sat_of (adjusted_of t minutes) }
 {
-    if minutes > 307445734561825860 {
-        return MOST64;
+    if minutes > MOST_MINUTES {
+        return i64::MAX;
     }
-    if minutes < -307445734561825860 {
-        return LEAST64;
+    if minutes < -MOST_MINUTES {
+        return i64::MIN;
     }
     let half = minutes * 30;
     plus(plus(t, half), half)

@@ -4,7 +4,5 @@ use Rattle.queue.proofs.lined.Goals as goal
 
 pub returns : goal.returns
 returns c =
-    let start = c.before.before.before.before in
-    let q = start.args.queue in
-    let w : Whole q = record { ids = search rules; pages = search rules } in
-    (rw (c.part.ensures, c.part-2.ensures) (lined-jobs q w start.args.from start.args.to start.requires.1), refl)
+    let q = c.args.queue.now in let w : Whole q = record { ids = search rules; pages = search rules } in
+    (rw (c.part.ensures, c.part-2.ensures) (lined-jobs q w c.args.from c.args.to c.requires.1), refl)

@@ -7,9 +7,5 @@ pub overflow_sub-result : goal.overflow_sub-result
 unfolding of_ordinal_of
 overflow_sub-result c =
     let s = c.before.before.before in
-    subst (λ (k : ℕ). k ≤ s.args.ordinal) (sym (c.days_before-before.ensures ∙ ap (days_before_of _) c.month_of-month.ensures))
+    subst (λ (k : ℕ). k ≤ s.args.ordinal) (sym (c.days_before.ensures ∙ ap (days_before_of _) c.month_of-month.ensures))
     (month_after c.is_leap_year-leap.result s.args.ordinal s.requires.1)
-
-pub returns : goal.returns
-unfolding of_ordinal_of
-returns c = cc

@@ -1,6 +1,6 @@
--- No pattern here is a NaN's. The float whose pattern is read passed the test `r == r`, so it is no NaN.
+-- No pattern here is a NaN's.
 use Rattle.prelude.proofs.Logic.{arith}
-use Rattle.fdlibm_root.proofs.NoNan.{no_nan_bits, self_equal}
+use Rattle.fdlibm_root.proofs.NoNan.{no_nan_bits}
 use Rattle.fdlibm_root.proofs.certify.estimate.Goals as goal
 
 pub float_from_bits-y : goal.float_from_bits-y
@@ -8,6 +8,3 @@ float_from_bits-y c = no_nan_bits _ (omega arith)
 
 pub float_from_bits-g : goal.float_from_bits-g
 float_from_bits-g c = no_nan_bits _ (omega arith)
-
-pub float_to_bits-result : goal.float_to_bits-result
-float_to_bits-result c = self_equal _ c.if-r.true

@@ -1,26 +1,8 @@
 -- The tests of the code are those of `rem_pio2_of`, in the same order; x or -x is the size of x (`Signs`).
-use Rattle.prelude.proofs.Logic.{sym, arith, lt-ltb, le-ltb, le-leb, lt-leb}
+use Rattle.prelude.proofs.Logic.{sym, arith, le-ltb, lt-leb}
 use Rattle.fdlibm_trig.specs.RemPio2.{rem_pio2_of}
 use Rattle.fdlibm_trig.proofs.Signs.{negative_size, plain_size}
 use Rattle.fdlibm_trig.proofs.e_rem_pio2.rem_pio2.Goals as goal
-
-pub returns-then-ix-le1072243195 : goal.returns-then-ix-le1072243195
-unfolding rem_pio2_of
-returns-then-ix-le1072243195 c = simp (sym c.high_word-ix.ensures, le-leb _ _ c.if-ix-le1072243195.true)
-
-pub returns-then-x : goal.returns-then-x
-unfolding rem_pio2_of
-returns-then-x c =
-    let d = c.before.before.before.before in
-    simp (sym c.more.ensures, sym c.near_negative.ensures, sym d.high_word-ix.ensures)
-    (simp (c.if-x.true, lt-ltb _ _ c.if-ix-lt1073928572.true, lt-leb _ _ d.if-ix-le1072243195.false))
-
-pub returns-else-x : goal.returns-else-x
-unfolding rem_pio2_of
-returns-else-x c =
-    let d = c.before.before.before.before in
-    simp (sym c.less.ensures, sym c.near.ensures, sym d.high_word-ix.ensures)
-    (simp (c.if-x.false, lt-ltb _ _ c.if-ix-lt1073928572.true, lt-leb _ _ d.if-ix-le1072243195.false))
 
 pub returns-then-x-2 : goal.returns-then-x-2
 unfolding rem_pio2_of

@@ -4,7 +4,7 @@ use Rattle.fields.proofs.Collecting.{Collecting}
 use Rattle.fields.proofs.plain.collect.Given as goal
 
 abbrev pub invariant-loop-at : goal.invariant-loop-at
-invariant-loop-at l = Collecting l.order l.at l.starts l.lengths × Sound l.order
+invariant-loop-at l = Collecting l.order l.at l.fields × Sound l.order
 
 abbrev pub decreases-loop-at : goal.decreases-loop-at
 decreases-loop-at l = length l.order - l.at

@@ -3,9 +3,6 @@ use Rattle.float64.specs.Whole.{floor_of}
 use Rattle.float64.proofs.Parts.{neg_neg, neg_positive, floor_positive, still_zero}
 use Rattle.float64.proofs.whole.floor.Goals as goal
 
-pub lower-requires : goal.lower-requires
-lower-requires c = c.if-x.true
-
 pub returns-then-x : goal.returns-then-x
 returns-then-x c = c.lower.ensures ∙ floor_positive c.args.x c.if-x.true
 

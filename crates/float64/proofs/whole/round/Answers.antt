@@ -3,9 +3,6 @@ use Rattle.prelude.proofs.Ieee.{neg}
 use Rattle.float64.proofs.Parts.{neg_neg, neg_positive, round_odd, still_zero}
 use Rattle.float64.proofs.whole.round.Goals as goal
 
-pub half_up-requires : goal.half_up-requires
-half_up-requires c = c.if-x.true
-
 pub returns-then-x : goal.returns-then-x
 returns-then-x c = c.half_up.ensures
 

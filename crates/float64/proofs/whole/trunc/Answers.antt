@@ -3,9 +3,6 @@ use Rattle.prelude.proofs.Ieee.{neg}
 use Rattle.float64.proofs.Parts.{neg_neg, neg_positive, trunc_odd, still_zero}
 use Rattle.float64.proofs.whole.trunc.Goals as goal
 
-pub lower-requires : goal.lower-requires
-lower-requires c = c.if-x.true
-
 pub returns-then-x : goal.returns-then-x
 returns-then-x c = c.lower.ensures
 

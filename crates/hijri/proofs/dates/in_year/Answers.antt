@@ -8,9 +8,9 @@ unfolding in_year_of
 month_start-requires c =
     let m = month-small c.args.k c.requires c.month_of-month.result c.month_of-month.ensures in omega arith
 
-pub overflow_sub-day : goal.overflow_sub-day
+pub overflow_sub-result : goal.overflow_sub-result
 unfolding in_year_of
-overflow_sub-day c =
+overflow_sub-result c =
     let s = c.before.before in
     month-less s.args.k s.requires c.month_of-month.result c.month_of-month.ensures c.month_start.result
     c.month_start.ensures
@@ -18,8 +18,7 @@ overflow_sub-day c =
 pub overflow_cast-result : goal.overflow_cast-result
 unfolding in_year_of
 overflow_cast-result c =
-    let s = c.before.before in
-    let m = month-small s.args.k s.requires c.month_of-month.result c.month_of-month.ensures in
+    let m = month-small c.args.k c.requires c.month_of-month.result c.month_of-month.ensures in
     omega arith
 
 pub returns : goal.returns

@@ -1,5 +1,5 @@
 -- `append` is `append_of`: it refuses a `used` over the buffer, else it reads the log and passes that to `append_read`.
-use Rattle.prelude.proofs.Logic.{refl, sym, arith, length, length-take-le, rules, le-leb, lt-leb}
+use Rattle.prelude.proofs.Logic.{sym, arith, length, length-take-le, le-leb, lt-leb}
 use Rattle.joblog.specs.Calls.{append_of}
 use Rattle.joblog.proofs.calls.append.Goals as goal
 
@@ -17,7 +17,7 @@ pub returns : goal.returns
 unfolding append_of
 returns c =
     let a = c.args in let within = le-leb a.used (length a.log.now) (omega arith) in let e = c.append_read.ensures in
-    let read = c.scan-reading.ensures.0 in
+    let read = c.scan-reading.ensures in
     record {
       value = simp (within, ← read) e.value;
       log_after = simp (within, ← read) e.log_after;

@@ -1,5 +1,5 @@
 -- Compaction writes all of `compactedOf` at the front of the second buffer, or nothing if it is too short.
-use Rattle.prelude.proofs.Logic.{sym, ◌≤◌, ◌<◌, arith, length, rules, le-leb, lt-leb}
+use Rattle.prelude.proofs.Logic.{sym, ◌≤◌, ◌<◌, arith, length, le-leb, lt-leb}
 use Rattle.joblog.proofs.CompactLaws.{compacted_length, put_none}
 use Rattle.joblog.specs.{Records.compacted_of, Calls.compact_answer}
 use Rattle.joblog.proofs.calls.compact.Goals as goal

@@ -15,4 +15,4 @@ pub returns : goal.returns
 unfolding read_log_of
 returns c =
     let a = c.args in
-    simp (le-leb a.used (length a.log.now) (omega arith), ← c.scan.ensures.0) c.read_answer.ensures
+    simp (le-leb a.used (length a.log.now) (omega arith), ← c.scan.ensures) c.read_answer.ensures

@@ -1,5 +1,5 @@
 -- `restart` is `restart_of`: it refuses a `used` over the buffer, else it reads the log and passes that to `restart_read`.
-use Rattle.prelude.proofs.Logic.{◌∙◌, sym, arith, length, length-take-le, rules, le-leb, lt-leb}
+use Rattle.prelude.proofs.Logic.{◌∙◌, sym, arith, length, length-take-le, le-leb, lt-leb}
 use Rattle.joblog.proofs.CallLaws.{restarted_any}
 use Rattle.joblog.specs.Calls.{restart_of}
 use Rattle.joblog.proofs.calls.restart.Goals as goal
@@ -23,7 +23,7 @@ returns c =
     let a = at-scan.args in
     let any = restarted_any read.result a.log.now a.count a.second.now in
     let w = c.restart_read.ensures in
-    let within = le-leb a.used (length a.log.now) (omega arith) in let says = read.ensures.0 in
+    let within = le-leb a.used (length a.log.now) (omega arith) in let says = read.ensures in
     record {
       value = simp (within, ← says) (w.value ∙ any.0);
       second_after = simp (within, ← says) (w.second_after ∙ any.1);

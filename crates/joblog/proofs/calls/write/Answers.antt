@@ -1,5 +1,5 @@
 -- Two ends: the record is written after the whole ones if five bytes are left there; else the log is compacted with it.
-use Rattle.prelude.proofs.Logic.{refl, ◌+◌, arith, length, rules, le-leb, lt-leb}
+use Rattle.prelude.proofs.Logic.{◌+◌, arith, length, le-leb, lt-leb}
 use Rattle.joblog.specs.{Records.whole_of, Calls.logged_of}
 use Rattle.joblog.proofs.calls.write.Goals as goal
 
@@ -10,7 +10,7 @@ returns-then-log-at-ge5 c =
     let a = at-if.args in let w = at-if.whole-at.ensures in
     let room = le-leb (whole_of a.used + 5) (length a.log.now) (omega (arith, at-if.if-log-at-ge5.true)) in
     record {
-      value = simp (c.answer.ensures, c.after.ensures, c.new_record.ensures, w, room);
+      value = simp (c.answer.ensures, c.with.ensures, w, room);
       log_after = simp (at-put.put_record.ensures, w, room);
       second_after = simp room;
     }

@@ -1,41 +1,28 @@
--- Invariant: reading the records from `at` on, with what the earlier ones say, is reading the whole log.
-use Rattle.prelude.proofs.Logic.{◌≡◌, refl, sym, ◌∙◌, true, false, ◌-◌, ◌≤◌, arith, eqb, length, drop, rules}
-use Rattle.joblog.specs.Records.{records_of, in_turn, read_of, log_reading_of}
-use Rattle.joblog.proofs.ScanLaws.{scan-next, scan-stop, scan-end, after_bounded}
+use Rattle.prelude.proofs.Logic.{refl, sym, ap, ◌∙◌, true, List, ℕ}
+use Rattle.joblog.specs.Records.{state, read_of}
+use Rattle.joblog.proofs.ScanLaws.{all_chunked, chunked, scan-next, scan-stop, scan-unknown, scan-end}
 use Rattle.joblog.proofs.records.scan.Goals as goal
 
-pub loop-at-init : goal.loop-at-init
-loop-at-init c = (omega arith, refl, omega arith, omega arith)
+pub loop-i-init : goal.loop-i-init
+loop-i-init c =
+    ap (λ (cs : List (List ℕ)). read_of true (state 0 0) (chunked cs)) c.as_chunks.ensures.front
+    ∙ ap (read_of true (state 0 0)) (all_chunked _ c.args.log.now refl)
 
-pub record_at-r-requires : goal.record_at-r-requires
-record_at-r-requires c = omega arith
+pub loop-i-preserved : goal.loop-i-preserved
+loop-i-preserved c =
+    let l = c.loop-i in
+    rw c.with-s.ensures
+    (scan-next l.s l.i _ _ _ _ c.loop-i-test.true l.invariant c.read_record-r.ensures c.in-Some.kind c.in-Some.is (sym c.takes.ensures ∙ c.if-takes.true))
 
-pub overflow_add-at : goal.overflow_add-at
-overflow_add-at c = omega arith
+pub returns-in_default : goal.returns-in_default
+returns-in_default c =
+    let l = c.loop-i in
+    scan-stop l.s l.i _ _ _ _ c.loop-i-test.true l.invariant c.read_record-r.ensures c.in-Some.kind c.in-Some.is (sym c.takes.ensures ∙ c.if-takes.false)
 
-pub loop-at-smaller : goal.loop-at-smaller
-loop-at-smaller c = omega arith
-
-pub loop-at-preserved : goal.loop-at-preserved
-loop-at-preserved c =
-    let at_turn = c.before.before in let at-record = at_turn.before in let at-loop = at-record.before.before in
-    let l = at-loop.loop-at in let log = at-loop.args.log.now in
-    let r = at-record.record_at-r.result in let e = at-record.record_at-r.ensures in
-    let turn : in_turn (eqb l.at 0) l.s r ≡ true = sym at_turn.in_turn.ensures ∙ c.if-in_turn.true in
-    let so = scan-next log l.s l.at (log_reading_of log) l.invariant.1 r (omega arith) e.0 turn in
-    let b = after_bounded l.s r e.1 l.invariant.2 l.invariant.3 in
-    rw c.after-s.ensures (omega arith, so, b.0, b.1)
-
-pub returns-else-in_turn : goal.returns-else-in_turn
-returns-else-in_turn c =
-    let at-record = c.before.before in let at-loop = at-record.before.before in
-    let l = at-loop.loop-at in let log = at-loop.args.log.now in
-    let r = at-record.record_at-r.result in let e = at-record.record_at-r.ensures in
-    let turn : in_turn (eqb l.at 0) l.s r ≡ false = sym c.in_turn.ensures ∙ c.if-in_turn.false in
-    (scan-stop log l.s l.at (log_reading_of log) l.invariant.1 r (omega arith) e.0 turn, e.1)
+pub returns-in_default-2 : goal.returns-in_default-2
+returns-in_default-2 c =
+    let l = c.loop-i in
+    scan-unknown l.s l.i _ _ _ _ c.loop-i-test.true l.invariant c.read_record-r.ensures c.in_default.is
 
 pub returns : goal.returns
-returns c =
-    let l = c.loop-at in
-    let log = c.args.log.now in
-    (scan-end log l.s l.at (log_reading_of log) l.invariant.1 (omega arith), (l.invariant.2, l.invariant.3))
+returns c = scan-end _ c.loop-i.s c.loop-i.i _ _ c.loop-i-test.false c.loop-i.invariant

@@ -1,11 +1,8 @@
-use Rattle.prelude.proofs.Logic.{◌≡◌, refl, sym, ◌∙◌, true, false, ◌-◌, ◌≤◌, arith, eqb, length, drop, rules}
-use Rattle.joblog.specs.Records.{records_of, in_turn, read_of, log_reading_of}
-use Rattle.joblog.proofs.ScanLaws.{scan-next, scan-stop, scan-end, after_bounded}
+-- Invariant: reading the records from i on, with what the earlier ones say, is reading the whole log.
+use Rattle.std.proofs.Common.{◌≡◌, drop, eqb}
+use Rattle.joblog.specs.Records.{read_of, log_reading_of}
+use Rattle.joblog.proofs.ScanLaws.{chunked}
 use Rattle.joblog.proofs.records.scan.Given as goal
 
-abbrev pub invariant-loop-at : goal.invariant-loop-at
-invariant-loop-at l = (l.at ≤ length l.log) × (read_of (eqb l.at 0) l.s (records_of (drop l.at l.log)) ≡ log_reading_of l.log) × (l.s.finished ≤ 65535)
-    × (l.s.sent ≤ 65535)
-
-abbrev pub decreases-loop-at : goal.decreases-loop-at
-decreases-loop-at l = length l.log - l.at
+abbrev pub invariant-loop-i : goal.invariant-loop-i
+invariant-loop-i l = read_of (eqb l.i 0) l.s (chunked (drop l.i l.records)) ≡ log_reading_of l.log

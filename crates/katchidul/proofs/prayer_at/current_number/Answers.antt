@@ -6,6 +6,6 @@ pub returns-in-Some : goal.returns-in-Some
 unfolding current_number_of
 returns-in-Some c = cc
 
-pub returns-in-Nothing : goal.returns-in-Nothing
+pub returns-in-None : goal.returns-in-None
 unfolding current_number_of
-returns-in-Nothing c = cc
+returns-in-None c = cc

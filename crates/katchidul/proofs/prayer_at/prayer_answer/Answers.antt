@@ -2,10 +2,10 @@ use Rattle.prelude.proofs.Logic.{rules}
 use Rattle.katchidul.specs.Exports.{prayer_answer_of}
 use Rattle.katchidul.proofs.prayer_at.prayer_answer.Goals as goal
 
-pub returns-in-Prayer : goal.returns-in-Prayer
+pub returns-in-Ok : goal.returns-in-Ok
 unfolding prayer_answer_of
-returns-in-Prayer c = cc
+returns-in-Ok c = cc
 
-pub returns-in-Refused : goal.returns-in-Refused
+pub returns-in-Err : goal.returns-in-Err
 unfolding prayer_answer_of
-returns-in-Refused c = cc
+returns-in-Err c = cc

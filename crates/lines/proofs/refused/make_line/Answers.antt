@@ -1,5 +1,5 @@
 -- The words and the two numbers, put one after another, are the refusal's text.
-use Rattle.prelude.proofs.Logic.{◌≡◌, arith, length, rules}
+use Rattle.prelude.proofs.Logic.{◌≡◌, arith, length}
 use Rattle.text.specs.Text.{ascii}
 use Rattle.lines.proofs.LinesLaws.{number_length}
 use Rattle.lines.proofs.Making.{line_made}

@@ -1,5 +1,5 @@
 -- A word and the number after it are one text; a number has at most twenty digits.
-use Rattle.prelude.proofs.Logic.{arith, rules}
+use Rattle.prelude.proofs.Logic.{arith}
 use Rattle.text.proofs.TextLaws.{digits_short}
 use Rattle.lines.proofs.Making.{number_made, number_end}
 use Rattle.lines.proofs.refused.put_number.Goals as goal

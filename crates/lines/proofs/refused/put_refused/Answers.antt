@@ -1,5 +1,5 @@
 -- The line is made in an array of its own, and its bytes are put at the offset.
-use Rattle.prelude.proofs.Logic.{◌≡◌, sym, ap, ◌∙◌, arith, length, rules}
+use Rattle.prelude.proofs.Logic.{◌≡◌, sym, ap, ◌∙◌, arith, length}
 use Rattle.text.proofs.TextLaws.{cut_front}
 use Rattle.lines.specs.Lines.{refused_text}
 use Rattle.lines.proofs.LinesLaws.{refused_length}

@@ -1,5 +1,4 @@
 use Rattle.lines.specs.Lines.{date_text}
-use Rattle.prelude.proofs.Logic.{rules}
 use Rattle.lines.proofs.times.date_text.Goals as goal
 
 pub returns : goal.returns

@@ -8,12 +8,11 @@ use Rattle.lines.proofs.times.divided.Goals as goal
 
 pub returns : goal.returns
 returns c =
-    let t = c.before.before.before.before.before in
     let days = c.day_of-days in
-    let r = read w64 t.args.time t.ranges.time in
+    let r = read w64 c.args.time c.ranges.time in
     let k : read_back w64 days.result ≡ days.result = search rules in
-    let d = k ∙ days.ensures ∙ ap (λ (z : ℤ). floor_quot z 86400) r ∙ since_days t.args.time in (
+    let d = k ∙ days.ensures ∙ ap (λ (z : ℤ). floor_quot z 86400) r ∙ since_days c.args.time in (
       c.sign.ensures ∙ ap sign_of d,
-      c.digit.ensures ∙ ap digit_of (c.size.ensures ∙ ap nat_abs d),
+      c.digit.ensures ∙ ap digit_of (c.unsigned_abs.ensures.value ∙ ap nat_abs d),
       c.second_of_day.ensures ∙ ap (λ (z : ℤ). floor_rem z 86400) r,
     )

@@ -1,4 +1,4 @@
-use Rattle.prelude.proofs.Logic.{refl, rules}
+use Rattle.prelude.proofs.Logic.{refl}
 use Rattle.lines.proofs.times.second_digits.Goals as goal
 
 pub returns-then-second-eq0 : goal.returns-then-second-eq0

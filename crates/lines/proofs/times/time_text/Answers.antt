@@ -1,5 +1,5 @@
 -- Two ends: a time near the row's date is compared, any other is divided. Both give the same text.
-use Rattle.prelude.proofs.Logic.{◌≡◌, ap, ◌∙◌, ℕ, ◌-◌, ◌*◌, ◌/◌, ◌%◌, ℤ, nat_abs, arith, lit<, rules, w64}
+use Rattle.prelude.proofs.Logic.{◌≡◌, ap, ◌∙◌, ℕ, ◌-◌, ◌*◌, ◌/◌, ◌%◌, ℤ, nat_abs, arith, lit<, w64}
 use Rattle.integers.proofs.Integers.{floor_rem, floored, read_back, read}
 use Rattle.text.specs.Text.{digit_of}
 use Rattle.lines.specs.Lines.{days_of, sign_of, time_text}
@@ -13,12 +13,11 @@ two_digits-hour-requires c =
 pub returns : goal.returns
 unfolding time_text
 returns c =
-    let t = c.before.before.before.before in
     let moment = c.compared-moment in
     let hour = c.two_digits-hour in
     let minute = c.two_digits-minute in
     let rest = c.second_digits-rest in
-    let r = read w64 t.args.time t.ranges.time in
+    let r = read w64 c.args.time c.ranges.time in
     let days = ap (days_of epoch) r in
     let s = moment.ensures.2 ∙ ap (λ (z : ℤ). floor_rem z 86400) r in
     let n : ℕ = moment.result.second in

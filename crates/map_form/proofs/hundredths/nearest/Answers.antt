@@ -10,21 +10,17 @@ float_to_bits-b c = no_nan c.args.x 180 c.requires
 
 pub returns-then-e-lt1000 : goal.returns-then-e-lt1000
 returns-then-e-lt1000 c =
-    let s = c.before in
-    (none s.args.x s.well_formed.0.1 s.requires c.if-e-lt1000.true, lit≤ tt)
+    (none c.args.x c.well_formed.0.1 c.requires c.if-e-lt1000.true, lit≤ tt)
 
 pub overflow_sub-result : goal.overflow_sub-result
 overflow_sub-result c =
-    let s = c.before.before in
-    omega (arith, highest-field s.args.x s.well_formed.0.1 s.requires)
+    omega (arith, highest-field c.args.x c.well_formed.0.1 c.requires)
 
 pub overflow_add-result : goal.overflow_add-result
 overflow_add-result c =
-    let s = c.before.before in
-    record { fits = omega (arith, div-le_self c.scaled.result (2 ^ (1054 - to_bits binary64 s.args.x % 2 ^ 63 / 2 ^ 52))) }
+    record { fits = omega (arith, div-le_self c.scaled.result (2 ^ (1054 - to_bits binary64 c.args.x % 2 ^ 63 / 2 ^ 52))) }
 
 pub returns : goal.returns
 returns c =
-    let s = c.before.before in
-    let e = some s.args.x s.well_formed.0.1 s.requires c.if-e-lt1000.false c.scaled.result c.scaled.ensures in
-    (e, rw e (count_le s.args.x 180 s.requires))
+    let e = some c.args.x c.well_formed.0.1 c.requires c.if-e-lt1000.false c.scaled.result c.scaled.ensures in
+    (e, rw e (count_le c.args.x 180 c.requires))

@@ -6,21 +6,17 @@ use Rattle.map_form.proofs.writing.write.Goals as goal
 
 pub nearest-n-requires : goal.nearest-n-requires
 nearest-n-requires c =
-    let s = c.before.before in
-    wider s.args.x s.args.most 180 s.requires (sym c.in_range.ensures ∙ c.if-in_range.true)
+    let limit = c.args.coordinate in
+    wider c.args.x limit.most 180 limit.small (sym c.in_range.ensures ∙ c.if-in_range.true)
 
 pub returns-then-in_range : goal.returns-then-in_range
 returns-then-in_range c =
-    let n = c.before.before.before in
-    let i = n.before.before in
-    let a = i.args in
+    let limit = c.args.coordinate in
     rw (c.parts.ensures, c.none.ensures)
-    (inside a.tag a.most a.x n.nearest-n.result c.sign_of.result (sym i.in_range.ensures ∙ n.if-in_range.true)
-    n.nearest-n.ensures.0 c.sign_of.ensures)
+    (inside limit.tag limit.most c.args.x c.nearest-n.result c.sign_of.result (sym c.in_range.ensures ∙ c.if-in_range.true)
+    c.nearest-n.ensures.0 c.sign_of.ensures)
 
-pub returns : goal.returns
-returns c =
-    let i = c.before.before.before in
-    let a = i.args in
-    rw (c.no_parts.ensures, c.new.ensures)
-    (outside a.tag a.most a.x (sym i.in_range.ensures ∙ c.if-in_range.false))
+pub returns-else-in_range : goal.returns-else-in_range
+returns-else-in_range c =
+    let limit = c.args.coordinate in
+    rw c.new.ensures (outside limit.tag limit.most c.args.x (sym c.in_range.ensures ∙ c.if-in_range.false))

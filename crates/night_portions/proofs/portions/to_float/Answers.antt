@@ -16,6 +16,6 @@ int_to_float-result c = exact _ c.if-seconds-ge-LEAST_EXACT.true c.if-seconds-le
 pub returns-then-seconds-le-MOST_EXACT : goal.returns-then-seconds-le-MOST_EXACT
 returns-then-seconds-le-MOST_EXACT c = let t = c.before.before.before in ap (of_int binary64) (read w64 t.args.seconds t.ranges.seconds)
 
-pub returns : goal.returns
-returns c =
-    let t = c.before.before in c.nearest_i64_to_f64.ensures ∙ ap (of_int binary64) (read w64 t.args.seconds t.ranges.seconds)
+pub returns-else-seconds-ge-LEAST_EXACT : goal.returns-else-seconds-ge-LEAST_EXACT
+returns-else-seconds-ge-LEAST_EXACT c =
+    c.nearest_i64_to_f64.ensures ∙ ap (of_int binary64) (read w64 c.args.seconds c.ranges.seconds)

@@ -1,18 +1,12 @@
-use Rattle.prelude.proofs.Logic.{sym}
-use Rattle.fields.specs.Values.{values_in}
+use Rattle.prelude.proofs.Logic.{rules}
+use Rattle.fields.specs.Values.{given_by}
+use Rattle.fields.specs.Numbers.{byte_of}
 use Rattle.order.specs.Given.{byte_or}
+use Rattle.order.proofs.GivenLaws.{read_or}
 use Rattle.order.proofs.given.byte_or.Goals as goal
 
-pub returns-then-has : goal.returns-then-has
-unfolding byte_or values_in
-returns-then-has c =
-    simp (
-      sym c.byte.ensures.value,
-      sym c.value.ensures,
-      sym c.has.ensures,
-      c.if-has.true,
-    )
-
-pub returns-else-has : goal.returns-else-has
-unfolding byte_or values_in
-returns-else-has c = simp (sym c.has.ensures, c.if-has.false)
+pub returns : goal.returns
+unfolding byte_or
+returns c =
+    let a = c.args in
+    read_or (given_by a.given) a.tag c.get.result a.missing c.map_or.result (λ x. byte_of x 0) c.get.ensures (search rules)

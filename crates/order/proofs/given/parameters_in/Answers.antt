@@ -1,6 +1,6 @@
 -- Each field of the parameters is the result of its call.
 use Rattle.prelude.proofs.Logic.{sym, ap, ◌∙◌, rules, w32, SFits, to_z-of_z}
-use Rattle.fields.specs.Values.{values_in}
+use Rattle.fields.specs.Values.{given_by}
 use Rattle.order.specs.Given.{interval_or, parameters_in}
 use Rattle.order.proofs.given.parameters_in.Goals as goal
 
@@ -10,7 +10,7 @@ returns c =
     let a = c.args in
     let f0 : SFits w32 c.interval_or.result = search rules in
     let f1 : SFits w32 c.parameters-preset.result.isha_interval = search rules in
-    let interval = c.interval_or.ensures ∙ ap (interval_or (values_in a.order.now a.fields)) (to_z-of_z f1) in
+    let interval = c.interval_or.ensures ∙ ap (interval_or (given_by a.given)) (to_z-of_z f1) in
     simp (
       to_z-of_z f0,
       sym interval,

@@ -1,8 +1,9 @@
 -- The stored shift is a byte, so the shift, which is one less, fits an i32.
 use Rattle.prelude.proofs.Logic.{◌≡◌, sym, ℕ, ◌<◌, arith, pos, ◌-ℤ◌, w32, SFits, to_z}
-use Rattle.fields.specs.Values.{values_in}
+use Rattle.fields.specs.Values.{given_by}
 use Rattle.integers.proofs.Integers.{fits, read_back, read, difference}
 use Rattle.order.specs.Given.{ramadan_given, ramadan_in}
+use Rattle.order.proofs.GivenLaws.{had, lacked}
 use Rattle.order.proofs.given.ramadan_in.Goals as goal
 
 module _ (n : ℕ) (h : n < 256) where
@@ -19,21 +20,20 @@ module _ (n : ℕ) (h : n < 256) where
   less-read = rw seen (read w32 (pos n -ℤ pos 1) less)
 
 pub overflow_sub-result : goal.overflow_sub-result
-overflow_sub-result c = less-fits c.byte-then-has.result c.byte-then-has.ensures.upper_bound
+overflow_sub-result c = less-fits c.byte-in-Some.result c.byte-in-Some.ensures.upper_bound
 
-pub returns-then-has : goal.returns-then-has
-unfolding ramadan_in ramadan_given values_in
-returns-then-has c =
-    let v = c.before.before in
+pub returns-in-Some : goal.returns-in-Some
+unfolding ramadan_in ramadan_given
+returns-in-Some c =
+    let h = had (given_by c.args.given) 20 _ c.in-Some.ensures in
     simp (
-      less-read c.byte-then-has.result c.byte-then-has.ensures.upper_bound,
-      sym c.byte-then-has.ensures.value,
+      less-read c.byte-in-Some.result c.byte-in-Some.ensures.upper_bound,
+      sym c.byte-in-Some.ensures.value,
       sym c.byte.ensures.value,
-      sym v.value-bytes.ensures,
-      sym v.has.ensures,
-      v.if-has.true,
+      sym h.1,
+      h.0,
     )
 
-pub returns : goal.returns
-unfolding ramadan_in values_in
-returns c = simp (sym c.has.ensures, c.if-has.false)
+pub returns-in-None : goal.returns-in-None
+unfolding ramadan_in
+returns-in-None c = let h = lacked (given_by c.args.given) 20 c.in-None.ensures in simp h

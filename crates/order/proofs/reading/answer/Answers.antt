@@ -1,52 +1,38 @@
--- The four checks in a chain are one check, which refuses or does not.
-use Rattle.prelude.proofs.Logic.{sym, ap, ◌∙◌}
-use Rattle.fields.specs.Values.{values_in}
-use Rattle.order.specs.Reading.{order_of}
-use Rattle.order.specs.declared.reading.Order.{Order}
-use Rattle.order.proofs.Answers.{first_or, refused-alone, read-alone}
+use Rattle.std.specs.Prelude.{Ok}
+use Rattle.std.proofs.lemmas.Result.{err_from_is_err_and}
+use Rattle.prelude.proofs.Logic.{ap, ◌∙◌}
+use Rattle.fields.specs.Values.{given_by}
+use Rattle.order.proofs.Answers.{by_missing, by-both_forms, by-range, by-start, by-none}
 use Rattle.order.proofs.reading.answer.Goals as goal
 
--- the record's date is the date of the values
-pub out_of_range-requires : goal.out_of_range-requires
-unfolding order_of
-out_of_range-requires c = ap (λ (o : Order). o.date) c.record_in-record.ensures
+pub returns-in_err-missing : goal.returns-in_err-missing
+returns-in_err-missing c =
+    let p = err_from_is_err_and c.from_residual.result c.from_residual.ensures.1 in
+    rw (p.1, p.2) (by_missing (given_by c.args.given) _ c.in_err-missing.ensures)
 
-pub returns-then-refusal-ne0 : goal.returns-then-refusal-ne0
-unfolding values_in
-returns-then-refusal-ne0 c =
-    let o = c.before.before in
-    let t = o.before.before in
-    let d = t.before.before in
-    let m = d.before.before in
-    refused-alone o.or-refusal.result m.record_in-record.result c.if-refusal-ne0.true
-    ∙ sym (simp (
-      first_or,
-      sym m.record_in-record.ensures,
-      sym m.missing.ensures,
-      sym d.both_forms.ensures,
-      sym d.or.ensures,
-      sym t.out_of_range.ensures,
-      sym t.or-2.ensures,
-      sym o.wrong_start.ensures,
-      sym o.or-refusal.ensures,
-    ))
+pub returns-in_err-both_forms : goal.returns-in_err-both_forms
+returns-in_err-both_forms c =
+    let r = c.from_residual-in_err-both_forms in
+    let p = err_from_is_err_and r.result r.ensures.1 in
+    rw (p.1, p.2) (by-both_forms (given_by c.args.given) c.in_ok-missing.ensures _ c.in_err-both_forms.ensures)
+
+pub returns-in_err-out_of_range : goal.returns-in_err-out_of_range
+returns-in_err-out_of_range c =
+    let r = c.from_residual-in_err-out_of_range in
+    let p = err_from_is_err_and r.result r.ensures.1 in
+    rw (p.1, p.2)
+    (by-range (given_by c.args.given) c.in_ok-missing.ensures c.in_ok-both_forms.ensures _ c.in_err-out_of_range.ensures)
+
+pub returns-in_err-wrong_start : goal.returns-in_err-wrong_start
+returns-in_err-wrong_start c =
+    let r = c.from_residual-in_err-wrong_start in
+    let p = err_from_is_err_and r.result r.ensures.1 in
+    rw (p.1, p.2)
+    (by-start (given_by c.args.given) c.in_ok-missing.ensures c.in_ok-both_forms.ensures c.in_ok-out_of_range.ensures _
+    (rw c.record_in-record.ensures at c.in_err-wrong_start.ensures))
 
 pub returns : goal.returns
-unfolding values_in
 returns c =
-    let o = c.before.before in
-    let t = o.before.before in
-    let d = t.before.before in
-    let m = d.before.before in
-    read-alone o.or-refusal.result m.record_in-record.result c.if-refusal-ne0.false
-    ∙ sym (simp (
-      first_or,
-      sym m.record_in-record.ensures,
-      sym m.missing.ensures,
-      sym d.both_forms.ensures,
-      sym d.or.ensures,
-      sym t.out_of_range.ensures,
-      sym t.or-2.ensures,
-      sym o.wrong_start.ensures,
-      sym o.or-refusal.ensures,
-    ))
+    ap Ok c.record_in-record.ensures
+    ∙ by-none (given_by c.args.given) c.in_ok-missing.ensures c.in_ok-both_forms.ensures c.in_ok-out_of_range.ensures
+    (rw c.record_in-record.ensures at c.in_ok-wrong_start.ensures)

@@ -1,54 +1,43 @@
 -- Invariant: the first tag that fails from here on is the first of all that fails.
-use Rattle.prelude.proofs.Logic.{◌≡◌, refl, sym, ◌∙◌, Bool, ℕ, arith, drop}
-use Rattle.fields.specs.Tags.{last_tag}
-use Rattle.fields.specs.Values.{values_in}
-use Rattle.order.specs.Reading.{first_failing, tags_from, out_of_range_of}
-use Rattle.order.proofs.OutOfRange.{all_tags, passes, held}
-use Rattle.order.proofs.Tags.{fails, on, none, tags_from_lem}
+use Rattle.std.specs.Prelude.{Err}
+use Rattle.prelude.proofs.Logic.{◌≡◌, refl, sym, ap, ◌∙◌, arith}
+use Rattle.refusals.specs.declared.Refusal.{Refusal}
+use Rattle.refusals.specs.Refusals.{unless_refused}
+use Rattle.refusals.proofs.Refused.{refuses, refuses_not}
+use Rattle.fields.specs.Values.{given_by}
+use Rattle.order.specs.Given.{date_in}
+use Rattle.order.specs.Reading.{out_of_range_of}
+use Rattle.order.proofs.OutOfRange.{passes, from_tag, tag-fails, tag-passes, tags-end, held}
+use Rattle.order.proofs.reading.out_of_range.Goals.{At-loop-tag}
 use Rattle.order.proofs.reading.out_of_range.Goals as goal
-use Rattle.order.proofs.reading.out_of_range.Goals.{At-loop-passed}
 
--- at the loop: whether a tag passes, and what the first tag that does not pass gives
-passing : (c : At-loop-passed) → ℕ → Bool
-passing c =
-    let a = c.args in
-    passes a.order.now a.fields.at a.fields.length a.date c.has-ramadan.result
-
-first : (c : At-loop-passed) → let a = c.args in
-    first_failing 5 (passing c) (drop c.loop-passed.passed (tags_from last_tag 1)) ≡ out_of_range_of (values_in a.order.now a.fields)
-unfolding passing values_in
+first : (c : At-loop-tag) → let v = given_by c.args.given in
+    from_tag (passes v c.date_in-date.result c.has-ramadan.result) c.loop-tag.tag ≡ out_of_range_of v
 first c =
-    let a = c.args in
-    c.loop-passed.invariant.1
-    ∙ held a.order.now a.fields a.date c.has-ramadan.result c.requires c.has-ramadan.ensures
+    let v = given_by c.args.given in
+    c.loop-tag.invariant
+    ∙ held v c.date_in-date.result c.has-ramadan.result (c.date_in-date.ensures ∙ ap date_in c.value.ensures) c.has-ramadan.ensures
 
-pub loop-passed-init : goal.loop-passed-init
-loop-passed-init c = (omega arith, refl)
+pub loop-tag-init : goal.loop-tag-init
+loop-tag-init c = refl
 
 pub returns-then-not-in_range : goal.returns-then-not-in_range
-unfolding passing
 returns-then-not-in_range c =
-    let l = (goal.at.returns-then-not-in_range c).At-loop-passed in
-    let t = c.loop-passed-test.true in
-    c.new.ensures
-    ∙ sym (fails 5 (passing l) (tags_from last_tag 1) l.loop-passed.passed (omega (arith, all_tags)) _
-    (tags_from_lem last_tag 1 l.loop-passed.passed t) (sym c.in_range.ensures ∙ c.if-not-in_range.true))
-    ∙ first l
+    let v = given_by c.args.given in
+    let stop = tag-fails (passes v c.date_in-date.result c.has-ramadan.result) c.loop-tag.tag c.loop-tag-test.true
+    (sym c.in_range.ensures ∙ c.if-not-in_range.true) in
+    ap Err c.new.ensures ∙ sym (refuses _ tt (λ z. omega (arith, z)))
+    ∙ ap (λ (r : Refusal). unless_refused r tt) (sym stop ∙ first (goal.at.returns-then-not-in_range c).At-loop-tag)
 
-pub loop-passed-preserved : goal.loop-passed-preserved
-unfolding passing
-loop-passed-preserved c =
-    let l = (goal.at.loop-passed-preserved c).At-loop-passed in
-    let t = c.loop-passed-test.true in (
-      omega arith,
-      sym (on 5 (passing l) (tags_from last_tag 1) l.loop-passed.passed (omega (arith, all_tags)) _
-          (tags_from_lem last_tag 1 l.loop-passed.passed t) (sym c.in_range.ensures ∙ c.if-not-in_range.false))
-          ∙ l.loop-passed.invariant.1,
-    )
+pub loop-tag-preserved : goal.loop-tag-preserved
+loop-tag-preserved c =
+    let v = given_by c.args.given in
+    sym (tag-passes (passes v c.date_in-date.result c.has-ramadan.result) c.loop-tag.tag c.loop-tag-test.true
+    (sym c.in_range.ensures ∙ c.if-not-in_range.false)) ∙ c.loop-tag.invariant
 
 pub returns : goal.returns
 returns c =
-    let l = (goal.at.returns c).At-loop-passed in
-    c.none.ensures
-    ∙ sym (none 5 (passing l) (tags_from last_tag 1) l.loop-passed.passed (omega (arith, all_tags, c.loop-passed-test.false)))
-    ∙ first l
+    let pass = passes (given_by c.args.given) c.date_in-date.result c.has-ramadan.result in
+    let end : c.loop-tag.tag ≡ 21 = omega arith in
+    let none = sym (tags-end pass) ∙ ap (from_tag pass) (sym end) ∙ first (goal.at.returns c).At-loop-tag in
+    sym (refuses_not _ tt (ap (λ (r : Refusal). r.number) (sym none)))

@@ -3,10 +3,10 @@ use Rattle.prelude.proofs.Logic.{refl}
 use Rattle.order.specs.Reading.{town_in}
 use Rattle.order.proofs.reading.town.Goals as goal
 
-pub returns-in-Read : goal.returns-in-Read
+pub returns-in-Ok : goal.returns-in-Ok
 unfolding town_in
-returns-in-Read c = rw c.in-Read.is c.bytes.ensures
+returns-in-Ok c = rw c.in-Ok.is c.bytes.ensures
 
-pub returns-in-Refused : goal.returns-in-Refused
+pub returns-in-Err : goal.returns-in-Err
 unfolding town_in
-returns-in-Refused c = rw c.in-Refused.is refl
+returns-in-Err c = rw c.in-Err.is refl

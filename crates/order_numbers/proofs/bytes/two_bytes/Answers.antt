@@ -1,7 +1,6 @@
-use Rattle.prelude.proofs.Logic.{refl}
-use Rattle.order_numbers.specs.Bytes.{two_bytes}
+use Rattle.prelude.proofs.Logic.{◌∙◌}
+use Rattle.order_numbers.proofs.BytesLaws.{two_is}
 use Rattle.order_numbers.proofs.bytes.two_bytes.Goals as goal
 
 pub returns : goal.returns
-unfolding two_bytes
-returns c = refl
+returns c = c.to_be_bytes.ensures ∙ two_is c.args.n c.requires

@@ -1,10 +1,10 @@
 use Rattle.order_numbers.specs.Numbers.{order_numbers_in}
 use Rattle.order_numbers.proofs.numbers.numbers_of.Goals as goal
 
-pub returns-in-Read : goal.returns-in-Read
+pub returns-in-Ok : goal.returns-in-Ok
 unfolding order_numbers_in
-returns-in-Read c = rw c.in-Read.is c.order_read.ensures
+returns-in-Ok c = rw c.in-Ok.is c.order_read.ensures
 
-pub returns-in-Refused : goal.returns-in-Refused
+pub returns-in-Err : goal.returns-in-Err
 unfolding order_numbers_in
-returns-in-Refused c = rw c.in-Refused.is c.order_refused.ensures
+returns-in-Err c = rw c.in-Err.is c.order_refused.ensures

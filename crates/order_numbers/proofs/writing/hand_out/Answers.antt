@@ -11,16 +11,16 @@ returns-then-text-buffer c =
     let short = lt-leb (length a.text.now) (length a.buffer.now) c.if-text-buffer.true in
     let why = c.refuse-then-text-buffer.ensures ∙ ap refused_of c.new.ensures in
     record {
-      value = simp (sym c.read.ensures ∙ c.in-Read.is, short) why;
-      buffer_after = simp (sym c.read.ensures ∙ c.in-Read.is, short);
+      value = simp (sym c.read.ensures ∙ c.in-Ok.is, short) why;
+      buffer_after = simp (sym c.read.ensures ∙ c.in-Ok.is, short);
     }
 
-pub returns-in-Refused : goal.returns-in-Refused
+pub returns-in-Err : goal.returns-in-Err
 unfolding call_in
-returns-in-Refused c =
+returns-in-Err c =
     record {
-      value = simp (sym c.read.ensures ∙ c.in-Refused.is) c.refuse.ensures;
-      buffer_after = simp (sym c.read.ensures ∙ c.in-Refused.is);
+      value = simp (sym c.read.ensures ∙ c.in-Err.is) c.refuse.ensures;
+      buffer_after = simp (sym c.read.ensures ∙ c.in-Err.is);
     }
 
 pub returns-else-text-buffer : goal.returns-else-text-buffer
@@ -32,6 +32,6 @@ returns-else-text-buffer c =
     let none = c.none.ensures in
     let copied = c.put.ensures ∙ put_front [] a.text.now a.buffer.now (omega arith) in
     record {
-      value = simp (sym c.read.ensures ∙ c.in-Read.is, room) (λ i. record { refusal = none i; length = length a.text.now });
-      buffer_after = simp (sym c.read.ensures ∙ c.in-Read.is, room) copied;
+      value = simp (sym c.read.ensures ∙ c.in-Ok.is, room) (λ i. record { refusal = none i; length = length a.text.now });
+      buffer_after = simp (sym c.read.ensures ∙ c.in-Ok.is, room) copied;
     }

@@ -1,5 +1,5 @@
--- Three ends: the order lacks the page, a full page, or the last page with the rows that are left.
-use Rattle.prelude.proofs.Logic.{arith, rules}
+-- The order lacks the page, or has a page of it: a full one, or the last one with the rows that are left.
+use Rattle.prelude.proofs.Logic.{arith}
 use Rattle.pages.proofs.PageLaws.{page-none, page-length}
 use Rattle.pages.proofs.page.rows_on.Goals as goal
 
@@ -12,14 +12,8 @@ returns-then-before-order c =
     let n = page-length a.order a.page (omega (arith, c.if-page-eq0.false)) in
     omega (arith, c.if-before-order.true)
 
-pub returns-then-left-lt-PAGE_ROWS : goal.returns-then-left-lt-PAGE_ROWS
-returns-then-left-lt-PAGE_ROWS c =
+pub returns : goal.returns
+returns c =
     let a = c.args in
     let n = page-length a.order a.page (omega (arith, c.if-page-eq0.false)) in
-    omega (arith, c.if-left-lt-PAGE_ROWS.true)
-
-pub returns-else-left-lt-PAGE_ROWS : goal.returns-else-left-lt-PAGE_ROWS
-returns-else-left-lt-PAGE_ROWS c =
-    let a = c.args in
-    let n = page-length a.order a.page (omega (arith, c.if-page-eq0.false)) in
-    omega (arith, c.if-left-lt-PAGE_ROWS.false)
+    omega (arith, c.if-before-order.false, c.min.ensures)

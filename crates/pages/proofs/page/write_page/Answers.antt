@@ -11,10 +11,10 @@ returns-then-scratch-lt-ROW_CELLS c =
 pub write_read-requires : goal.write_read-requires
 write_read-requires c = search (taken, rules)
 
-pub returns-in-Read : goal.returns-in-Read
-returns-in-Read c =
+pub returns-in-Ok : goal.returns-in-Ok
+returns-in-Ok c =
     let both = called-read _ _ _ _ (search rules) _ (search returned) _ _ (c.write_read.ensures.value, c.write_read.ensures.scratch_after) in record { value = both.0; scratch_after = both.1 }
 
-pub returns-in-Refused : goal.returns-in-Refused
-returns-in-Refused c =
-    let both = called-refused _ _ _ _ (search rules) _ (search returned) _ c.refused-in-Refused.ensures in record { value = both.0; scratch_after = both.1 }
+pub returns-in-Err : goal.returns-in-Err
+returns-in-Err c =
+    let both = called-refused _ _ _ _ (search rules) _ (search returned) _ c.refused-in-Err.ensures in record { value = both.0; scratch_after = both.1 }

@@ -1,8 +1,8 @@
 -- Two ends: 5 if the page lacks the row; else the rows that fit are written, from row `first` on.
-use Rattle.prelude.proofs.Logic.{◌≡◌, sym, ap, ◌∙◌, ◌+◌, ◌-◌, ◌*◌, ◌/◌, arith, length, rules}
+use Rattle.prelude.proofs.Logic.{◌≡◌, sym, ap, ◌∙◌, ◌+◌, ◌-◌, ◌*◌, ◌/◌, arith, length}
 use Rattle.pages.specs.Answers.{piece_in}
 use Rattle.pages.proofs.AnswerLaws.{rows_refused, rows_answered}
-use Rattle.pages.proofs.PageLaws.{Written, piece-none, piece-written}
+use Rattle.pages.proofs.PageLaws.{piece-none, piece-written}
 use Rattle.pages.proofs.RowsLaws.{rows-length}
 use Rattle.pages.proofs.page.write_read.Goals as goal
 

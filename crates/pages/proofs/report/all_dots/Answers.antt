@@ -1,4 +1,4 @@
-use Rattle.prelude.proofs.Logic.{ap, ◌∙◌, rules}
+use Rattle.prelude.proofs.Logic.{ap, ◌∙◌}
 use Rattle.braille.specs.Braille.{dots_of}
 use Rattle.pages.proofs.ReportLaws.{all_written}
 use Rattle.pages.proofs.report.all_dots.Goals as goal

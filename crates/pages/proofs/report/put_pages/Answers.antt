@@ -1,4 +1,4 @@
-use Rattle.prelude.proofs.Logic.{sym, ap, ◌∙◌, List, ℕ, ◌-◌, ◌*◌, ◌≤◌, arith, length, rules}
+use Rattle.prelude.proofs.Logic.{sym, ap, ◌∙◌, List, ℕ, ◌-◌, ◌*◌, ◌≤◌, arith, length}
 use Rattle.text.specs.Text.{front_of}
 use Rattle.pages.proofs.ReportLaws.{all_written, all_length}
 use Rattle.pages.proofs.report.put_pages.Goals as goal

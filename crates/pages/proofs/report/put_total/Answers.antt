@@ -1,5 +1,5 @@
 -- The word and the sum of the dots are the report's text.
-use Rattle.prelude.proofs.Logic.{arith, rules}
+use Rattle.prelude.proofs.Logic.{arith}
 use Rattle.text.proofs.TextLaws.{digits_short}
 use Rattle.pages.proofs.ReportLaws.{total_length, total_made}
 use Rattle.pages.proofs.report.put_total.Goals as goal

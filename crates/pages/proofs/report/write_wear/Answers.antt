@@ -12,11 +12,11 @@ returns-then-buffer-lt-WEAR_BYTES c =
 pub all_dots-requires : goal.all_dots-requires
 all_dots-requires c = search (taken, rules)
 
-pub returns-in-Read : goal.returns-in-Read
-returns-in-Read c =
+pub returns-in-Ok : goal.returns-in-Ok
+returns-in-Ok c =
     let both = report-read _ _ _ _ (search rules) _ _ _ (search returned)
     (rw c.all_dots.ensures at c.put_total.ensures.value, rw c.all_dots.ensures at c.put_total.ensures.buffer_after) in record { value = both.0; buffer_after = both.1 }
 
-pub returns-in-Refused : goal.returns-in-Refused
-returns-in-Refused c =
+pub returns-in-Err : goal.returns-in-Err
+returns-in-Err c =
     let both = report-refused _ _ _ _ (search rules) _ _ (lit≤ tt) _ (search returned) (c.put_refused_order.ensures.value, c.put_refused_order.ensures.buffer_after) in record { value = both.0; buffer_after = both.1 }

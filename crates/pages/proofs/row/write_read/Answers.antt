@@ -1,4 +1,3 @@
-use Rattle.prelude.proofs.Logic.{rules}
 use Rattle.pages.proofs.AnswerLaws.{rows_refused, rows_answered, row_there, row_lacking, row_one}
 use Rattle.pages.proofs.row.write_read.Goals as goal
 

@@ -1,4 +1,4 @@
-use Rattle.prelude.proofs.Logic.{arith, rules}
+use Rattle.prelude.proofs.Logic.{arith}
 use Rattle.pages.proofs.AnswerLaws.{rows_counted}
 use Rattle.pages.proofs.rows.write_rows.Goals as goal
 

@@ -6,6 +6,6 @@ pub returns-in-Some : goal.returns-in-Some
 unfolding probe_time_of
 returns-in-Some c = let f0 : SFits w32 c.in-Some.seconds = search rules in cc (to_z-of_z f0)
 
-pub returns-in-Nothing : goal.returns-in-Nothing
+pub returns-in-None : goal.returns-in-None
 unfolding probe_time_of
-returns-in-Nothing c = cc
+returns-in-None c = cc

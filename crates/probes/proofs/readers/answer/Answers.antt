@@ -4,11 +4,11 @@ use Rattle.order_numbers.specs.Numbers.{order_numbers_in}
 use Rattle.probes.specs.Readers.{answer_of}
 use Rattle.probes.proofs.readers.answer.Goals as goal
 
-pub returns-in-Read : goal.returns-in-Read
+pub returns-in-Ok : goal.returns-in-Ok
 unfolding answer_of order_numbers_in
-returns-in-Read c =
-    simp (c.numbers_of-numbers.ensures, c.in-Read.is)
+returns-in-Ok c =
+    simp (c.numbers_of-numbers.ensures, c.in-Ok.is)
 
-pub returns-in-Refused : goal.returns-in-Refused
+pub returns-in-Err : goal.returns-in-Err
 unfolding answer_of order_numbers_in dec round of_bits
-returns-in-Refused c = simp (c.numbers_of-numbers.ensures, c.in-Refused.is)
+returns-in-Err c = simp (c.numbers_of-numbers.ensures, c.in-Err.is)

@@ -2,10 +2,10 @@ use Rattle.prelude.proofs.Logic.{rules}
 use Rattle.probes.specs.Days.{probe_day_of}
 use Rattle.probes.proofs.worked.answered.Goals as goal
 
-pub returns-in-Times : goal.returns-in-Times
+pub returns-in-Ok : goal.returns-in-Ok
 unfolding probe_day_of
-returns-in-Times c = cc
+returns-in-Ok c = cc
 
-pub returns-in-Refused : goal.returns-in-Refused
+pub returns-in-Err : goal.returns-in-Err
 unfolding probe_day_of
-returns-in-Refused c = simp c.in-Refused.is
+returns-in-Err c = simp c.in-Err.is

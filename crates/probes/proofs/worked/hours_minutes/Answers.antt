@@ -6,6 +6,6 @@ pub returns-in-Some : goal.returns-in-Some
 unfolding probe_remaining_of
 returns-in-Some c = cc
 
-pub returns-in-Nothing : goal.returns-in-Nothing
+pub returns-in-None : goal.returns-in-None
 unfolding probe_remaining_of
-returns-in-Nothing c = cc
+returns-in-None c = cc

@@ -8,6 +8,3 @@ use Rattle.schedule.proofs.rolling.place_before_tomorrow.Goals as goal
 pub returns-then-date-lt-GREATEST_YEAR : goal.returns-then-date-lt-GREATEST_YEAR
 returns-then-date-lt-GREATEST_YEAR c =
     c.requires ∙ ap (λ (d : Date). place_of (position_of d)) (sym (back_to c.args.date c.if-date-lt-GREATEST_YEAR.true))
-
-pub returns : goal.returns
-returns c = simp (c.place.ensures, c.yesterday.ensures, c.tomorrow.ensures)

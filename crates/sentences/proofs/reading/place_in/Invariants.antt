@@ -1,10 +1,7 @@
-use Rattle.prelude.proofs.Logic.{◌≡◌, refl, sym, ◌∙◌, ◌-◌, ◌≤◌, arith, length, drop, rules}
-use Rattle.sentences.specs.Guess.{none, place_in}
-use Rattle.sentences.proofs.Steps.{place_next, place_end}
+-- Invariant: the place is that of the number so far, with which the bytes from here on say what they all say.
+use Rattle.std.proofs.Common.{◌≡◌, ℕ, drop}
+use Rattle.sentences.specs.Guess.{place_in, place_from}
 use Rattle.sentences.proofs.reading.place_in.Given as goal
 
-abbrev pub invariant-loop-i : goal.invariant-loop-i
-invariant-loop-i l = (l.v ≤ none) × (l.i ≤ length l.bytes) × (place_in l.v (drop l.i l.bytes) ≡ place_in 0 l.bytes)
-
-abbrev pub decreases-loop-i : goal.decreases-loop-i
-decreases-loop-i l = length l.bytes - l.i
+abbrev pub invariant-loop-b : goal.invariant-loop-b
+invariant-loop-b l = (v : ℕ) × (l.place ≡ place_from v) × (place_in v (drop l.b-index l.bytes) ≡ place_in 0 l.bytes)

@@ -1,5 +1,5 @@
 -- The head and then the lines of all rows are the order's text.
-use Rattle.prelude.proofs.Logic.{◌≡◌, arith, length, rules}
+use Rattle.prelude.proofs.Logic.{◌≡◌, arith, length}
 use Rattle.sheets.proofs.Lengths.{room_enough, head_length, sheet_made}
 use Rattle.sheets.proofs.sheet.put_accepted.Goals as goal
 

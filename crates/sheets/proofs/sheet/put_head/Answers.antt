@@ -1,5 +1,5 @@
 -- The town, a newline and the header that the order asks for.
-use Rattle.prelude.proofs.Logic.{arith, rules}
+use Rattle.prelude.proofs.Logic.{arith}
 use Rattle.sheets.proofs.Lengths.{header_short, head_length, head_made}
 use Rattle.sheets.proofs.sheet.put_head.Goals as goal
 

@@ -1,5 +1,4 @@
 use Rattle.sheets.specs.Rows.{header_text}
-use Rattle.prelude.proofs.Logic.{rules}
 use Rattle.sheets.proofs.sheet.put_header.Goals as goal
 
 pub returns-then-ramadan : goal.returns-then-ramadan

@@ -1,5 +1,5 @@
 -- A refused order and a read one, each by the law of every report. The town is read as a part of the order's bytes.
-use Rattle.prelude.proofs.Logic.{◌≡◌, sym, ap, ◌∙◌, lit≤, rules}
+use Rattle.prelude.proofs.Logic.{◌≡◌, sym, ap, ◌∙◌, lit≤}
 use Rattle.order.specs.Reading.{town_in, town_of}
 use Rattle.order.proofs.AcceptedLaws.{read_accepted}
 use Rattle.order.proofs.ReadingLaws.{read_town}
@@ -14,15 +14,15 @@ returns-then-buffer-lt-SHEET_BYTES c =
 pub put_accepted-requires : goal.put_accepted-requires
 unfolding town_of
 put_accepted-requires c =
-    let e = sym c.read-reading.ensures ∙ c.in-Read.is in
+    let e = sym c.read-reading.ensures ∙ c.in-Ok.is in
     let named : c.town-name.result.now ≡ town_of c.args.order.now =
     c.town-name.ensures ∙ ap (town_in c.args.order.now) c.read-reading.ensures in
     (read_accepted _ _ e, rw named (read_town _ _ e).size.1, c.if-buffer-lt-SHEET_BYTES.false)
 
-pub returns-in-Read : goal.returns-in-Read
+pub returns-in-Ok : goal.returns-in-Ok
 unfolding town_of
-returns-in-Read c =
-    let e = sym c.read-reading.ensures ∙ c.in-Read.is in
+returns-in-Ok c =
+    let e = sym c.read-reading.ensures ∙ c.in-Ok.is in
     let named : c.town-name.result.now ≡ town_of c.args.order.now =
     c.town-name.ensures ∙ ap (town_in c.args.order.now) c.read-reading.ensures in
     let put = c.put_accepted.ensures in
@@ -30,9 +30,9 @@ returns-in-Read c =
     (simp named at put.value, simp named at put.buffer_after) in
     record { value = both.0; buffer_after = both.1 }
 
-pub returns-in-Refused : goal.returns-in-Refused
-returns-in-Refused c =
+pub returns-in-Err : goal.returns-in-Err
+returns-in-Err c =
     let put = c.put_refused_order.ensures in
     let both = report-refused _ _ _ _ c.if-buffer-lt-SHEET_BYTES.false _ _ (lit≤ tt) _
-    (sym c.read-reading.ensures ∙ c.in-Refused.is)
+    (sym c.read-reading.ensures ∙ c.in-Err.is)
     (put.value, put.buffer_after) in record { value = both.0; buffer_after = both.1 }

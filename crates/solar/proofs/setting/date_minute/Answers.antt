@@ -25,6 +25,3 @@ unfolding minute_of dec round of_bits
 returns-then-seconds-2 c =
     rw (sym c.floor-calculated_minutes.ensures) (nearest_minute _ _ _ _ _ c.floor-calculated_minutes.ensures c.if-minutes.true c.if-minutes-2.true
     c.if-seconds.true c.if-seconds-2.true).is
-
-pub returns : goal.returns
-returns c = c.minute.ensures

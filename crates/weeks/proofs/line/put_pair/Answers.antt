@@ -1,5 +1,5 @@
 -- Four pieces, each put where the one before it ends. A sum up to any piece fits, since the whole text has room.
-use Rattle.prelude.proofs.Logic.{◌≡◌, ◌+◌, ◌≤◌, arith, length, rules, w64}
+use Rattle.prelude.proofs.Logic.{◌≡◌, ◌+◌, ◌≤◌, arith, length, w64}
 use Rattle.integers.proofs.Ranges.{read}
 use Rattle.text.specs.{Signed.signed_of, Text.decimal_of}
 use Rattle.weeks.proofs.LineLaws.{pair_bytes, pair_made}

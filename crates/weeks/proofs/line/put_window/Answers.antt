@@ -1,8 +1,6 @@
 -- The pieces of either line, each put where the one before it ends.
-use Rattle.prelude.proofs.Logic.{◌≡◌, ◌+◌, ◌≤◌, arith, length, rules, w64}
+use Rattle.prelude.proofs.Logic.{◌≡◌, arith, length, rules, w64}
 use Rattle.integers.proofs.Ranges.{read}
-use Rattle.text.specs.Text.{put_of}
-use Rattle.weeks.specs.Lines.{pair_text}
 use Rattle.weeks.proofs.LineLaws.{line_front, found_bytes, refused_bytes, found-made, refused-made}
 use Rattle.weeks.proofs.line.put_window.Goals as goal
 
@@ -13,16 +11,16 @@ overflow_add-end c =
 
 pub put_pair-end-requires : goal.put_pair-end-requires
 put_pair-end-requires c =
-    let x = c.in-Found.found in
-    let room = rw c.in-Found.is at c.requires in
+    let x = c.in-Some.found in
+    let room = rw c.in-Some.is at c.requires in
     let bytes = found_bytes c.args.first x in
     let kept : length c.put_decimal.new.buffer ≡ length c.args.buffer.now = c.put_decimal.auto.buffer in
     rw (read w64 x.earliest (search rules)) (omega (arith, c.put_decimal.ensures.value))
 
-pub put_pair-end-requires-in-Found : goal.put_pair-end-requires-in-Found
-put_pair-end-requires-in-Found c =
-    let x = c.in-Found.found in
-    let room = rw c.in-Found.is at c.requires in
+pub put_pair-end-requires-in-Some : goal.put_pair-end-requires-in-Some
+put_pair-end-requires-in-Some c =
+    let x = c.in-Some.found in
+    let room = rw c.in-Some.is at c.requires in
     let bytes = found_bytes c.args.first x in
     let e = rw (read w64 x.earliest (search rules)) at c.put_pair-end.ensures.value in
     let kept : length c.put_decimal.new.buffer ≡ length c.args.buffer.now = c.put_decimal.auto.buffer in
@@ -31,36 +29,36 @@ put_pair-end-requires-in-Found c =
 
 pub overflow_add-result : goal.overflow_add-result
 overflow_add-result c =
-    let x = c.in-Found.found in
-    let room = rw c.in-Found.is at c.requires in
+    let x = c.in-Some.found in
+    let room = rw c.in-Some.is at c.requires in
     let bytes = found_bytes c.args.first x in
     let e = rw (read w64 x.earliest (search rules)) at c.put_pair-end.ensures.value in
-    let f = rw (read w64 x.latest (search rules)) at c.put_pair-end-in-Found.ensures.value in
+    let f = rw (read w64 x.latest (search rules)) at c.put_pair-end-in-Some.ensures.value in
     record { fits = omega (arith, c.put_decimal.ensures.value) }
 
-pub returns-in-Found : goal.returns-in-Found
-returns-in-Found c =
-    let x = c.in-Found.found in
-    let told = c.in-Found.is in
+pub returns-in-Some : goal.returns-in-Some
+returns-in-Some c =
+    let x = c.in-Some.found in
+    let told = c.in-Some.is in
     let e = rw (read w64 x.earliest (search rules)) at c.put_pair-end.ensures.value in
-    let f = rw (read w64 x.latest (search rules)) at c.put_pair-end-in-Found.ensures.value in
+    let f = rw (read w64 x.latest (search rules)) at c.put_pair-end-in-Some.ensures.value in
     let decimal = c.put_decimal.ensures in
     let made = found-made _ _ c.args.first x (rw told at c.requires) _ _ _ _ _ _ _ decimal.value decimal.buffer_after
     e (rw (read w64 x.earliest (search rules)) at c.put_pair-end.ensures.buffer_after)
-    f (rw (read w64 x.latest (search rules)) at c.put_pair-end-in-Found.ensures.buffer_after) c.put.ensures in
+    f (rw (read w64 x.latest (search rules)) at c.put_pair-end-in-Some.ensures.buffer_after) c.put.ensures in
     record { value = rw told made.0; buffer_after = rw told made.1 }
 
-pub overflow_add-result-in-Refused : goal.overflow_add-result-in-Refused
-overflow_add-result-in-Refused c =
-    let room = rw c.in-Refused.is at c.requires in
+pub overflow_add-result-in-None : goal.overflow_add-result-in-None
+overflow_add-result-in-None c =
+    let room = rw c.in-None.is at c.requires in
     let bytes = refused_bytes c.args.first in
     let e = c.put_decimal.ensures.value in
     record { fits = omega arith }
 
-pub returns-in-Refused : goal.returns-in-Refused
-returns-in-Refused c =
-    let told = c.in-Refused.is in
+pub returns-in-None : goal.returns-in-None
+returns-in-None c =
+    let told = c.in-None.is in
     let decimal = c.put_decimal.ensures in
     let made = refused-made _ _ c.args.first (rw told at c.requires) _ _ _ decimal.value decimal.buffer_after
-    c.put-in-Refused.ensures in
+    c.put-in-None.ensures in
     record { value = rw told made.0; buffer_after = rw told made.1 }

@@ -1,21 +1,17 @@
--- The rows' minutes in the two arrays are those of the definition.
-use Rattle.prelude.proofs.Logic.{arith, rules}
-use Rattle.weeks.specs.{Kept.minute_at, Report.row_minute}
-use Rattle.weeks.proofs.ReportLaws.{report-same}
+-- The minutes that are kept are those of the definition.
+use Rattle.prelude.proofs.Logic.{◌≡◌, ◌∙◌, arith, length, take, length-take-le, rules}
+use Rattle.weeks.specs.{Kept.minute_in_list, Report.row_minute}
+use Rattle.weeks.proofs.ReportLaws.{report-same, minute_take}
 use Rattle.weeks.proofs.report.put_report.Goals as goal
-
-pub put_windows-requires : goal.put_windows-requires
-put_windows-requires c =
-    let start = c in
-    (omega (arith, start.requires.0.rows.1), omega (arith, start.requires.1))
 
 pub returns : goal.returns
 returns c =
-    let a = c.args in
-    let work = c.work_minutes in
-    let put = c.put_windows.ensures in
-    let same = report-same (minute_at work.new.minutes work.new.refused) (row_minute a.order) a.order.rows work.ensures in
+    let o = c.args.order in
+    let kept = c.minutes_of.result in
+    let long : length kept ≡ 400 = search rules in
+    let n : length (take o.rows kept) ≡ o.rows = length-take-le o.rows kept (omega (arith, c.requires.0.rows.1)) in
+    let same = report-same (minute_in_list (take o.rows kept)) (row_minute o) o.rows (λ k h. minute_take kept o.rows k h ∙ c.minutes_of.ensures k h) in
     record {
-      value = rw same at put.value;
-      buffer_after = rw same at put.buffer_after;
+      value = rw same at (simp n at c.put_windows.ensures.value);
+      buffer_after = rw same at (simp n at c.put_windows.ensures.buffer_after);
     }

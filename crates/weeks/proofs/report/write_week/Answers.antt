@@ -11,10 +11,10 @@ returns-then-buffer-lt-WEEK_BYTES c =
 pub put_report-requires : goal.put_report-requires
 put_report-requires c = search (taken, rules)
 
-pub returns-in-Read : goal.returns-in-Read
-returns-in-Read c =
+pub returns-in-Ok : goal.returns-in-Ok
+returns-in-Ok c =
     let both = report-read _ _ _ _ (search rules) _ _ _ (search returned) (c.put_report.ensures.value, c.put_report.ensures.buffer_after) in record { value = both.0; buffer_after = both.1 }
 
-pub returns-in-Refused : goal.returns-in-Refused
-returns-in-Refused c =
+pub returns-in-Err : goal.returns-in-Err
+returns-in-Err c =
     let both = report-refused _ _ _ _ (search rules) _ _ (lit≤ tt) _ (search returned) (c.put_refused_order.ensures.value, c.put_refused_order.ensures.buffer_after) in record { value = both.0; buffer_after = both.1 }

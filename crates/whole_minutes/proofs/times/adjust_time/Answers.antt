@@ -4,18 +4,18 @@ use Rattle.integers.proofs.Integers.{read_back}
 use Rattle.whole_minutes.proofs.Minutes as minutes
 use Rattle.whole_minutes.proofs.times.adjust_time.Goals as goal
 
-pub returns-then-minutes-gt307445734561825860 : goal.returns-then-minutes-gt307445734561825860
-returns-then-minutes-gt307445734561825860 c =
-    let s = c.before in minutes.far-up s.args.t s.args.minutes s.ranges.t s.ranges.minutes c.if-minutes-gt307445734561825860.true
+pub returns-then-minutes-gt-MOST_MINUTES : goal.returns-then-minutes-gt-MOST_MINUTES
+returns-then-minutes-gt-MOST_MINUTES c =
+    let s = c.before in minutes.far-up s.args.t s.args.minutes s.ranges.t s.ranges.minutes c.if-minutes-gt-MOST_MINUTES.true
 
-pub returns-then-minutes-ltminus307445734561825860 : goal.returns-then-minutes-ltminus307445734561825860
-returns-then-minutes-ltminus307445734561825860 c =
-    let s = c.before.before in minutes.far-down s.args.t s.args.minutes s.ranges.t s.ranges.minutes c.if-minutes-ltminus307445734561825860.true
+pub returns-then-minutes : goal.returns-then-minutes
+returns-then-minutes c =
+    let s = c.before.before in minutes.far-down s.args.t s.args.minutes s.ranges.t s.ranges.minutes c.if-minutes.true
 
 pub overflow_mul-half : goal.overflow_mul-half
 overflow_mul-half c =
     let s = c.before.before in
-    minutes.half-fits s.args.t s.args.minutes s.ranges.t s.ranges.minutes c.if-minutes-gt307445734561825860.false c.if-minutes-ltminus307445734561825860.false
+    minutes.half-fits s.args.t s.args.minutes s.ranges.t s.ranges.minutes c.if-minutes-gt-MOST_MINUTES.false c.if-minutes.false
 
 pub returns : goal.returns
 returns c =

@@ -12,9 +12,9 @@ unfolding shift_of
 returns-then-s-lt30 c =
     minutes.less_is _ c.args.s (lit≤ tt) c.ranges.s ∙ rw (c.in-Nearest.is, lt-ltb c.args.s 30 (omega arith))
 
-pub overflow_sub-result-in-Nearest : goal.overflow_sub-result-in-Nearest
+pub overflow_sub-result-else-s-lt30 : goal.overflow_sub-result-else-s-lt30
 unfolding shift_of
-overflow_sub-result-in-Nearest c = minutes.less_fits _ c.args.s (lit≤ tt) c.ranges.s
+overflow_sub-result-else-s-lt30 c = minutes.less_fits _ c.args.s (lit≤ tt) c.ranges.s
 
 pub overflow_sub-result-in-Up : goal.overflow_sub-result-in-Up
 unfolding shift_of

@@ -1,4 +1,4 @@
--- Each test of the code is the same test of `ordinal_of`. The sum fits because the days of a month are few.
+-- The sum fits because the days of a month are few.
 use Rattle.calendar.proofs.MonthTables.{year_short}
 use Rattle.prelude.proofs.Logic.{ap, ◌∙◌, sym, Bool, arith}
 use Rattle.calendar.specs.Gregorian.{leap_of}
@@ -8,23 +8,16 @@ use Rattle.calendar.proofs.dates.Date.ordinal.Goals as goal
 
 pub overflow_add-result : goal.overflow_add-result
 overflow_add-result c =
-    let at-if = c.before.before.before in
-    let d = at-if.args.self in
-    let x = exists_yes d (sym at-if.exists.ensures ∙ at-if.if-exists.true) in
+    let d = c.args.self in
+    let x = exists_yes d (sym c.exists.ensures ∙ c.if-not-exists.false) in
     let m = month_of_date d x in
     let e = c.days_before.ensures ∙ ap (λ (b : Bool). days_before_of b d.month) c.is_leap_year.ensures in
     omega (arith, year_short (leap_of d.year))
 
-pub returns-then-exists : goal.returns-then-exists
+pub returns-then-not-exists : goal.returns-then-not-exists
 unfolding ordinal_of
-returns-then-exists c =
-    simp (
-      sym c.days_before.ensures,
-      sym c.is_leap_year.ensures,
-      sym c.exists.ensures,
-      c.if-exists.true,
-    )
+returns-then-not-exists c = simp (sym c.exists.ensures, c.if-not-exists.true)
 
-pub returns-else-exists : goal.returns-else-exists
+pub returns : goal.returns
 unfolding ordinal_of
-returns-else-exists c = simp (sym c.exists.ensures, c.if-exists.false)
+returns c = simp (sym c.days_before.ensures, sym c.is_leap_year.ensures, sym c.exists.ensures, c.if-not-exists.false)

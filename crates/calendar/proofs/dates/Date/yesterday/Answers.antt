@@ -25,13 +25,13 @@ returns-then-month-gt1 c =
     ∙ ap (λ (n : ℕ). date_of d.year (d.month - 1) n) days
     ∙ month-earlier d (here e) (search rules) third.if-day-gt1.false third.if-month-gt1.true
 
-pub returns-then-year-eq0 : goal.returns-then-year-eq0
-returns-then-year-eq0 c =
+pub returns-else-year-gt0 : goal.returns-else-year-gt0
+returns-else-year-gt0 c =
     let second = c.before.before in
-    first-of-all _ (here second.before) (search rules) second.if-day-gt1.false c.if-month-gt1.false c.if-year-eq0.true
+    first-of-all _ (here second.before) (search rules) second.if-day-gt1.false c.if-month-gt1.false c.if-year-gt0.false
 
-pub returns : goal.returns
-returns c =
+pub returns-then-year-gt0 : goal.returns-then-year-gt0
+returns-then-year-gt0 c =
     let third = c.before.before in
-    c.new-2.ensures
-    ∙ year-earlier _ (here third.before.before) (search rules) third.if-day-gt1.false third.if-month-gt1.false c.if-year-eq0.false
+    c.new-then-year-gt0.ensures
+    ∙ year-earlier _ (here third.before.before) (search rules) third.if-day-gt1.false third.if-month-gt1.false c.if-year-gt0.true

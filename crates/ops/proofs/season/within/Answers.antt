@@ -1,7 +1,0 @@
-use Rattle.ops.proofs.season.within.Goals as goal
-
-pub returns-then-low-x : goal.returns-then-low-x
-returns-then-low-x c = simp c.if-low-x.true
-
-pub returns-else-low-x : goal.returns-else-low-x
-returns-else-low-x c = simp c.if-low-x.false

@@ -1,7 +1,0 @@
-use Rattle.float64.proofs.Floats.{round, of_bits, dec}
-use Rattle.ops.specs.Sun.{mean_solar_longitude_of}
-use Rattle.ops.proofs.sun.mean_solar_longitude.Goals as goal
-
-pub returns : goal.returns
-unfolding mean_solar_longitude_of dec round of_bits
-returns c = simp (c.unwound.ensures, c.new.ensures, c.squared-term3.ensures)

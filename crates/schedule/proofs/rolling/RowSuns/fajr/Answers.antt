@@ -1,6 +1,0 @@
-use Rattle.schedule.specs.RowSuns.{row_suns_fajr_of}
-use Rattle.schedule.proofs.rolling.RowSuns.fajr.Goals as goal
-
-pub returns : goal.returns
-unfolding row_suns_fajr_of
-returns c = simp (c.fajr.ensures, c.suns.ensures, c.season-season.ensures)

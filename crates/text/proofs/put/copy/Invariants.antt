@@ -1,8 +1,0 @@
-use Rattle.prelude.proofs.Logic.{◌≡◌, ◌-◌, ◌≤◌, length, paste}
-use Rattle.text.proofs.put.copy.Given as goal
-
-abbrev pub invariant-loop-i : goal.invariant-loop-i
-invariant-loop-i l = (l.i ≤ length l.text) × (length l.buffer ≡ length l.initial.buffer) × (l.buffer ≡ paste l.initial.buffer l.at l.text l.i)
-
-abbrev pub decreases-loop-i : goal.decreases-loop-i
-decreases-loop-i l = length l.text - l.i

@@ -1,7 +1,0 @@
-use Rattle.prelude.proofs.Logic.{refl}
-use Rattle.float64.proofs.Floats.{round, of_bits, dec}
-use Rattle.unit.proofs.Angle.from_radians.Goals as goal
-
-pub returns : goal.returns
-unfolding dec round of_bits
-returns c = refl

@@ -1,0 +1,20 @@
+use Rattle.prelude.proofs.Logic.{◌≡◌, refl, ◌∙◌, ◌<◌, arith}
+use Rattle.days.proofs.RowStates.{first-state, state_of, rolled, at_first}
+use Rattle.weeks.proofs.MinuteLaws.{row_done}
+use Rattle.weeks.proofs.minutes.minutes_of.Goals as goal
+use Rattle.weeks.proofs.minutes.minutes_of.Goals.{then-row-gt0, else-row-gt0}
+
+pub loop-row-init : goal.loop-row-init
+loop-row-init c =
+    record { state = c.new-suns.ensures ∙ first-state c.args.order c.requires; long = refl; done = λ k h. absurd (omega arith) }
+
+pub loop-row-preserved : goal.loop-row-preserved
+loop-row-preserved c =
+    let o = c.args.order in
+    let l = c.loop-row in
+    let h : l.row < o.rows = omega arith in
+    let state : c.if-row-gt0.suns ≡ state_of o l.row = elim c.if-row-gt0.branch [
+      | then-row-gt0 w ↦ w.suns-is ∙ w.next-suns.ensures ∙ rolled o c.requires l.row h l.suns l.invariant.state w.if-row-gt0.true
+      | else-row-gt0 w ↦ w.suns-is ∙ at_first o c.requires l.row l.suns l.invariant.state w.if-row-gt0.false
+    ] in
+    row_done o c.requires l.minutes _ l.row h state l.invariant.long l.invariant.done _ (rw c.fajr.ensures at c.minute_from.ensures)
