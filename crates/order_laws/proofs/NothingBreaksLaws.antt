@@ -1,4 +1,4 @@
--- None that a school sends breaks a run. Assumes nothing.
+-- Nothing that a school sends breaks a run. Assumes nothing.
 use Rattle.std.specs.Prelude.{Err, Ok, Result}
 use Rattle.schedule.specs.declared.prayer_times.PrayerTimes.{PrayerTimes}
 use Rattle.solar.specs.declared.times.SolarTime.{SolarTime}
