@@ -81,6 +81,7 @@ fn collect(order: &[u8]) -> Fields
     fields
 }
 
+#[tactic(auto, unfolding(crate::specs::Values::checked_of, refusals::specs::Refusals::unless_refused))]
 pub fn fields_of(order: &[u8]) -> Result<Fields, Refusal>
     ensures { result ≡ checked_of order.now }
 {

@@ -9,6 +9,7 @@ use fields::plain::fields_of;
 use fields::values::Given;
 use refusals::Refusal;
 
+#[tactic(auto, unfolding(crate::specs::Reading::reading_of, fields::specs::Values::checked_of, crate::specs::Reading::first_of, refusals::specs::Refusals::unless_refused))]
 pub fn read(order: &[u8]) -> Result<Order, Refusal>
     ensures { result ≡ reading_of order.now }
 {

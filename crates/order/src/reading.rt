@@ -129,6 +129,7 @@ fn wrong_start(ramadan: Ramadan, date: Date) -> Result<(), Refusal>
 }
 
 // Reads fields whose form is right. Both readers use it after they have collected them.
+#[tactic(auto, unfolding(crate::specs::Reading::first_of, refusals::specs::Refusals::unless_refused))]
 pub(crate) fn answer(given: Given) -> Result<Order, Refusal>
     ensures { result ≡ first_of (checks_of (given_by given.entry)) (order_of (given_by given.entry)) }
 {
@@ -140,6 +141,7 @@ pub(crate) fn answer(given: Given) -> Result<Order, Refusal>
     Ok(record)
 }
 
+#[tactic(auto, unfolding(crate::specs::Reading::reading_of, fields::specs::Values::checked_of, crate::specs::Reading::first_of, refusals::specs::Refusals::unless_refused))]
 pub fn read(order: &[u8]) -> Result<Order, Refusal>
     ensures { result ≡ reading_of order.now }
 {

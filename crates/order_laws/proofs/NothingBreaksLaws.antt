@@ -1,4 +1,4 @@
--- None that a school sends breaks a run. Assumes nothing.
+-- Nothing that a school sends breaks a run. Assumes nothing.
 use Rattle.std.specs.Prelude.{Err, Ok, Result}
 use Rattle.schedule.specs.declared.prayer_times.PrayerTimes.{PrayerTimes}
 use Rattle.solar.specs.declared.times.SolarTime.{SolarTime}
@@ -25,7 +25,7 @@ use Rattle.refusals.specs.{Refusals.refusal, Refusals.no_refusal, declared.Refus
 use Rattle.reports.specs.Reports.{report_in}
 use Rattle.sheets.proofs.Answers.{row-short, row_read, row-refused}
 use Rattle.sheets.specs.Rows.{worked_call_of, read_call_of, row_call_of, head_text, lines_text, accepted_text, sheet_text}
-use Rattle.schedule.proofs.Schedule.{suns_of, hours_of, numbers_of, season_of, started_in, since_from, since_of}
+use Rattle.schedule.proofs.Schedule.{numbered_of, suns_of, hours_of, numbers_of, season_of, started_in, since_from, since_of}
 use Rattle.schedule.specs.declared.{hours.RowHours.RowHours, hours.RowNumbers.RowNumbers}
 use Rattle.sentences.specs.{Sentences.sentence_of, Sentences.sentence_call_of, Table.known}
 use Rattle.solar.specs.Times.{missing_number_of, solar_time_of}
@@ -65,9 +65,9 @@ lacked Sunset = refl
 
 -- a row is refused by the first of its days that lacks a time, and only by it
 module _ (h : RowHours) (date : Date) (season : Season) (p : Parameters) (r : Refusal) where
-  by_days : (a b c : Result SolarTime Missing) → started_in date (since_from (suns_of a b c) h date season p) ≡ Err r
+  by_days : (a b c : Result SolarTime Missing) → started_in date (since_from (suns_of (numbered_of a) (numbered_of b) (numbered_of c)) h date season p) ≡ Err r
       → (listed day_numbers r.number ≡ true) × (r.place ≤ 2) × FirstLacking r.number r.place (a ∷ b ∷ c ∷ [])
-  unfolding started_in since_from suns_of
+  unfolding started_in since_from numbered_of suns_of
   by_days (Err m) b c e =
       let same : refusal (missing_number_of m) 0 ≡ r = cc in rw (← same) (lacked m, lit≤ tt, FirstLacking.here refl)
   by_days (Ok t) (Err m) c e =
@@ -79,8 +79,8 @@ module _ (h : RowHours) (date : Date) (season : Season) (p : Parameters) (r : Re
   by_days (Ok t) (Ok u) (Ok v) e = let w : ◌≡◌ {A = ℕ} 0 1 = cc in absurd (omega arith)
 
   by-lacking : {number place : ℕ} {a b c : Result SolarTime Missing} → FirstLacking number place (a ∷ b ∷ c ∷ [])
-      → started_in date (since_from (suns_of a b c) h date season p) ≡ Err (refusal number place)
-  unfolding started_in since_from suns_of
+      → started_in date (since_from (suns_of (numbered_of a) (numbered_of b) (numbered_of c)) h date season p) ≡ Err (refusal number place)
+  unfolding started_in since_from numbered_of suns_of
   by-lacking (FirstLacking.here e) = ap (λ (n : ℕ). Err (refusal n 0)) e
   by-lacking (FirstLacking.later (FirstLacking.here e)) = ap (λ (n : ℕ). Err (refusal n 1)) e
   by-lacking (FirstLacking.later (FirstLacking.later (FirstLacking.here e))) = ap (λ (n : ℕ). Err (refusal n 2)) e

@@ -6,7 +6,7 @@ pub use Rattle.schedule.proofs.SharedLaws.{row_shared, since-unasked}
 pub use Rattle.schedule.proofs.Short.{short_near, short_is}
 pub use Rattle.schedule.proofs.Starts.{start_near}
 unfoldable pub use Rattle.schedule.specs.Fajr.{fajr_in, fajr_alone_of}
-unfoldable pub use Rattle.schedule.specs.Hours.{hours_of, suns_of}
+unfoldable pub use Rattle.schedule.specs.Hours.{hours_of, numbered_of, suns_of}
 unfoldable pub use Rattle.schedule.specs.InForce.{current_number_of, last_of, ahead_of, time_of, following_current_of, hours_minutes_of}
 unfoldable pub use Rattle.schedule.specs.InForce.{until_of}
 pub use Rattle.schedule.specs.InForce.{current_time_of, next_of, NotAfter}

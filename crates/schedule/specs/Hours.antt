@@ -10,22 +10,29 @@ use Rattle.solar.specs.Times.{missing_number_of, solar_hour_of, solar_time_of}
 use Rattle.schedule.specs.declared.hours.RowNumbers.{RowNumbers}
 use Rattle.schedule.specs.declared.hours.RowHours.{RowHours}
 
+-- a day's times, or the number of the time that it lacks
+unfoldable pub numbered_of : Result SolarTime Missing → Result SolarTime ℕ
+numbered_of (Ok x) = Ok x
+numbered_of (Err m) = Err (missing_number_of m)
+
 -- a day of the three, or the refusal of what it lacks
-unfoldable pub sun_of : Result SolarTime Missing → ℕ → Result SolarTime Refusal
+unfoldable pub sun_of : Result SolarTime ℕ → ℕ → Result SolarTime Refusal
 sun_of (Ok x) day = Ok x
-sun_of (Err m) day = Err (refusal (missing_number_of m) day)
+sun_of (Err n) day = Err (refusal n day)
 
 -- "Days 0, 1, 2 are the date and the two after it, tried in that order, each for 6, 7, 8"
-unfoldable pub suns_of : Result SolarTime Missing → Result SolarTime Missing → Result SolarTime Missing → Result ThreeSuns Refusal
-suns_of (Err m) b c = Err (refusal (missing_number_of m) 0)
-suns_of (Ok x) (Err m) c = Err (refusal (missing_number_of m) 1)
-suns_of (Ok x) (Ok y) (Err m) = Err (refusal (missing_number_of m) 2)
+unfoldable pub suns_of : Result SolarTime ℕ → Result SolarTime ℕ → Result SolarTime ℕ → Result ThreeSuns Refusal
+suns_of (Err n) b c = Err (refusal n 0)
+suns_of (Ok x) (Err n) c = Err (refusal n 1)
+suns_of (Ok x) (Ok y) (Err n) = Err (refusal n 2)
 suns_of (Ok x) (Ok y) (Ok z) = Ok (record { today = x; tomorrow = y; after = z })
 
 unfoldable pub hours_of : Midnight → RowNumbers → RowHours
 hours_of rule n =
     record {
-      suns = suns_of (solar_time_of rule n.today) (solar_time_of rule n.tomorrow) (solar_time_of rule n.after);
+      suns =
+          suns_of (numbered_of (solar_time_of rule n.today)) (numbered_of (solar_time_of rule n.tomorrow))
+          (numbered_of (solar_time_of rule n.after));
       fajr = solar_hour_of rule n.fajr;
       asr = solar_hour_of rule n.asr;
       isha = solar_hour_of rule n.isha;

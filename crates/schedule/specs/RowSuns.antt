@@ -23,7 +23,7 @@ use Rattle.schedule.specs.declared.rolling.DaySun.{DaySun}
 use Rattle.schedule.specs.declared.rolling.RowSuns.{RowSuns}
 use Rattle.schedule.specs.Asked.{twilight_sines_of, fajr_hour_of, asr_hour_of, isha_hour_of}
 use Rattle.schedule.specs.Fajr.{fajr_alone_of}
-use Rattle.schedule.specs.Hours.{suns_of}
+use Rattle.schedule.specs.Hours.{numbered_of, suns_of}
 use Rattle.schedule.specs.Times.{since_of, started_in}
 
 -- those of a date and of the two days after it
@@ -42,7 +42,7 @@ courses_of date place =
     }
 
 unfoldable pub day_sun_of : Midnight → Course → DaySun
-day_sun_of rule course = record { course = course; times = solar_time_of rule (course_numbers_of course) }
+day_sun_of rule course = record { course = course; times = numbered_of (solar_time_of rule (course_numbers_of course)) }
 
 -- a row's, from its date
 unfoldable pub row_suns_of : Date → Setting → RowSuns

@@ -1,6 +1,6 @@
 // The hour numbers that a row's times are worked from, and the sun's times that they give.
 ghost use Rattle.std.specs.Prelude.{◌≡◌};
-ghost use Rattle.schedule.specs.Hours.{sun_of, suns_of, hours_of};
+ghost use Rattle.schedule.specs.Hours.{numbered_of, sun_of, suns_of, hours_of};
 
 use models::rules::Midnight;
 use refusals::Refusal;
@@ -38,21 +38,29 @@ pub struct RowHours {
     pub fajr_tomorrow: Option<i32>,
 }
 
-// A day's times, or its refusal: 6, 7 or 8, with the day, 0, 1 or 2, as its place.
+// A day's times, or the number of the time that it lacks: 6, 7 or 8.
+#[tactic(auto, unfolding(crate::specs::Hours::numbered_of))]
+pub fn numbered(times: Result<SolarTime, Missing>) -> Result<SolarTime, u32>
+    ensures { result ≡ numbered_of times }
+{
+    times.map_err(Missing::number)
+}
+
+// A day's times, or its refusal, with the day, 0, 1 or 2, as its place.
 #[tactic(auto, unfolding(crate::specs::Hours::sun_of))]
-fn sun(times: Result<SolarTime, Missing>, day: u32) -> Result<SolarTime, Refusal>
+fn sun(times: Result<SolarTime, u32>, day: u32) -> Result<SolarTime, Refusal>
     ensures { result ≡ sun_of times day }
 {
-    times.map_err(|missing| Refusal::new(missing.number(), day))
+    times.map_err(|number| Refusal::new(number, day))
 }
 
 impl ThreeSuns {
-    // The three days, or the refusal of the first that lacks a time.
+    // The three days, or the refusal of the first that lacks a time, with the number that it gives.
     #[tactic(auto, unfolding(crate::specs::Hours::suns_of, crate::specs::Hours::sun_of))]
     pub fn new(
-        today: Result<SolarTime, Missing>,
-        tomorrow: Result<SolarTime, Missing>,
-        after: Result<SolarTime, Missing>,
+        today: Result<SolarTime, u32>,
+        tomorrow: Result<SolarTime, u32>,
+        after: Result<SolarTime, u32>,
     ) -> Result<ThreeSuns, Refusal>
         ensures { result ≡ suns_of today tomorrow after }
     {
@@ -71,9 +79,9 @@ impl RowHours {
     {
         RowHours {
             suns: ThreeSuns::new(
-                SolarTime::new(rule, numbers.today),
-                SolarTime::new(rule, numbers.tomorrow),
-                SolarTime::new(rule, numbers.after),
+                numbered(SolarTime::new(rule, numbers.today)),
+                numbered(SolarTime::new(rule, numbers.tomorrow)),
+                numbered(SolarTime::new(rule, numbers.after)),
             ),
             fajr: solar_hour(rule, numbers.fajr),
             asr: solar_hour(rule, numbers.asr),

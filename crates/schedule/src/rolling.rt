@@ -11,7 +11,7 @@ ghost use Rattle.schedule.specs.RowSuns.{row_suns_worked_of, row_suns_fajr_of};
 
 use super::angles::{TwilightSines, asr_hour};
 use super::hours::RowHours;
-use crate::hours::ThreeSuns;
+use crate::hours::{ThreeSuns, numbered};
 use crate::prayer_times::{PrayerTimes, fajr_alone};
 use calendar::dates::Date;
 use julian::day::date_julian_day;
@@ -21,14 +21,14 @@ use ops::coordinates::{Equatorial, MeanElements, place, sidereal_time};
 use ops::transit::{Course, Observer};
 use refusals::Refusal;
 use solar::hours::hour_numbers;
-use solar::times::{Missing, SolarTime};
+use solar::times::SolarTime;
 use unit::Coordinates;
 
-// The sun's course over the place on a day, and its times.
+// The sun's course over the place on a day, and its times, or the number of the time that it lacks.
 #[derive(Clone, Copy)]
 pub struct DaySun {
     pub course: Course,
-    pub times: Result<SolarTime, Missing>,
+    pub times: Result<SolarTime, u32>,
 }
 
 // What a row is worked from: the sun of its date and of the two days after it, and the hours of Fajr's angle on the date and on the next.
@@ -137,7 +137,7 @@ impl DaySun {
     {
         DaySun {
             course,
-            times: SolarTime::new(rules.midnight, hour_numbers(course)),
+            times: numbered(SolarTime::new(rules.midnight, hour_numbers(course))),
         }
     }
 }

@@ -22,7 +22,7 @@ use Rattle.solar.specs.declared.{times.Missing.Missing, times.SolarTime.SolarTim
 use Rattle.solar.specs.Times.{solar_hour_of, solar_time_of}
 use Rattle.solar.proofs.TimesLaws.{SunOfThreeDays, DayOfThreeDays, hour_range, day_held}
 use Rattle.schedule.specs.declared.{hours.ThreeSuns.ThreeSuns, hours.RowHours.RowHours, hours.RowNumbers.RowNumbers}
-use Rattle.schedule.proofs.Schedule.{suns_of, hours_of, night_of, by_season_of, short_is, before_sunrise_of, unadjusted_fajr_of, after_sunset_of}
+use Rattle.schedule.proofs.Schedule.{numbered_of, suns_of, hours_of, night_of, by_season_of, short_is, before_sunrise_of, unadjusted_fajr_of, after_sunset_of}
 use Rattle.schedule.proofs.Schedule.{isha_bound_of, bounded_isha_of, unadjusted_isha_of}
 use Rattle.order.specs.{Ranges.most_angle, Accepted.LatitudeInOrder, Accepted.ParametersInOrder}
 use Rattle.schedule_laws.proofs.Spans.{HourBetween, hour_wider, own_between, earlier_between, next_day_between, fajr_between}
@@ -60,8 +60,9 @@ abbrev pub Row : Result ThreeSuns Refusal → Type 0
 Row (Ok suns) = Three suns
 Row (Err r) = Unit {0}
 
-row : (a b c : Result SolarTime Missing) → DayOfThreeDays a → DayOfThreeDays b → DayOfThreeDays c → Row (suns_of a b c)
-unfolding suns_of
+row : (a b c : Result SolarTime Missing) → DayOfThreeDays a → DayOfThreeDays b → DayOfThreeDays c
+    → Row (suns_of (numbered_of a) (numbered_of b) (numbered_of c))
+unfolding numbered_of suns_of
 row (Err m) b c h k l = tt
 row (Ok x) (Err m) c h k l = tt
 row (Ok x) (Ok y) (Err m) h k l = tt

@@ -1,7 +1,7 @@
 -- The line that is made of the words, a blank and the place's digits, and what the two calls return. Assumes nothing.
 use Rattle.prelude.proofs.Logic.{◌≡◌, refl, sym, ap, ◌∙◌, true, false, cond, ◌&&◌, List, [], ◌∷◌, ◌++◌, ℕ, ◌+◌, ◌≤◌, ◌<◌, arith, ltb}
 use Rattle.prelude.proofs.Logic.{length, take, length-append, le-ltb, le-leb, lt-leb, cases}
-use Rattle.prelude.proofs.Logic.{eqb, eqb-true, eqb-false, lt-ltb}
+use Rattle.prelude.proofs.Logic.{eqb, eqb-true, eqb-false, lt-ltb, ltb-false}
 use Rattle.std.proofs.Common.{Bool, Option, Some, None, nat_eq}
 use Rattle.std.specs.Bool.{then_some}
 use Rattle.std.specs.Cmp.Lexicographic.{pointwise}
@@ -16,7 +16,7 @@ use Rattle.sentences.proofs.Comparing.{pointwise_same}
 use Rattle.sentences.proofs.Lines.{text_fine, name_fine}
 use Rattle.sentences.proofs.Guessing.{ten_digits}
 use Rattle.sentences.proofs.Promises.{words_named, words_alone, words_short, sentence_known}
-use Rattle.sentences.proofs.Promises.{sentence_length}
+use Rattle.sentences.proofs.Promises.{sentence_unknown, sentence_length}
 
 -- ---- the words
 pub first_put : (line a text : List ℕ) → length text ≤ 64 → length line ≡ 100 → a ≡ put_of line 0 text → a ≡ front_of text line
@@ -65,15 +65,21 @@ module _ (n p : ℕ) (line a b c : List ℕ) (w d : ℕ) (l : length line ≡ 10
   line_holds = let s = words_short n p in let t = ten_digits p h in omega arith
 
   pub line_says : known n ≡ true → a ≡ front_of (words_of n p) line → b ≡ put_of a w (ascii " ") → c ≡ put_of b (w + 1) (decimal_of p)
-      → take (w + 1 + d) c ≡ sentence_of n p
+      → (w + 1 + d ≡ length (sentence_of n p)) × (c ≡ front_of (sentence_of n p) line)
   line_says k f q r =
       let s = words_short n p in let t = ten_digits p h in let m = length-append (words_of n p) (ascii " ") in
       let u : b ≡ front_of (words_of n p ++ ascii " ") line = put_next line (words_of n p) (ascii " ") a b w f e q (omega arith) in
-      let v : c ≡ front_of (sentence_of n p) line =
-      put_next line (words_of n p ++ ascii " ") (decimal_of p) b c (w + 1) u (omega arith) r (omega arith)
-      ∙ ap (λ (t : List ℕ). front_of t line) (sym (sentence_known n p k)) in
-      let y = sentence_length n p k in
-      cut_front (sentence_of n p) line c (w + 1 + d) (omega arith) v
+      let y = sentence_length n p k in (
+        omega arith,
+        put_next line (words_of n p ++ ascii " ") (decimal_of p) b c (w + 1) u (omega arith) r (omega arith)
+            ∙ ap (λ (t : List ℕ). front_of t line) (sym (sentence_known n p k)),
+      )
+
+-- an unknown number has no words, and so no sentence: the line stays
+pub line_stays : (n p : ℕ) (line a : List ℕ) → known n ≡ false → a ≡ front_of (words_of n p) line → a ≡ front_of (sentence_of n p) line
+line_stays n p line a k f =
+    let none-said = no_words n p (empty (text_of n) (omega (arith, ltb-false 0 (length (text_of n)) k))) in
+    f ∙ ap (λ (t : List ℕ). front_of t line) (none-said ∙ sym (sentence_unknown n p k))
 
 -- ---- what writing returns and leaves
 pub writes_unknown : (n p : ℕ) (buffer : List ℕ) → known n ≡ false → sentence_call_of n p buffer ≡ refusing out_of_range buffer

@@ -27,12 +27,20 @@ fn put_words(line: &mut [u8; 100], number: u32, place: u32) -> Option<usize>
     Some(text.len() + name.len())
 }
 
-// Writes the sentence into the line, or returns None for an unknown number.
-pub fn put_sentence<'a>(line: &'a mut [u8; 100], number: u32, place: u32) -> Option<&'a [u8]>
-    ensures { MatchOption result (known number ≡ false) (λ s. (known number ≡ true) × (s.now ≡ sentence_of number place)) }
+// Writes the sentence. Returns its length, or None for an unknown number, which leaves the line as it was.
+pub fn put_sentence(line: &mut [u8; 100], number: u32, place: u32) -> Option<usize>
+    ensures value { MatchOption result (known number ≡ false) (λ n. (known number ≡ true) × (n ≡ length (sentence_of number place))) }
+    ensures line_after { line.new ≡ front_of (sentence_of number place) line.old }
 {
     let words = put_words(&mut *line, number, place)?;
     put(&mut line[..], words, b" ");
-    let digits = put_decimal(&mut line[..], words + 1, u64::from(place));
-    Some(&line[..words + 1 + digits])
+    Some(words + 1 + put_decimal(&mut line[..], words + 1, u64::from(place)))
+}
+
+// The sentence, as the part of the line that it is written into.
+pub fn sentence_in<'a>(line: &'a mut [u8; 100], number: u32, place: u32) -> Option<&'a [u8]>
+    ensures { MatchOption result (known number ≡ false) (λ s. (known number ≡ true) × (s.now ≡ sentence_of number place)) }
+{
+    let end = put_sentence(&mut *line, number, place)?;
+    Some(&line[..end])
 }

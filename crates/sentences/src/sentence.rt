@@ -3,7 +3,7 @@ ghost use Rattle.std.specs.Prelude.{◌≡◌};
 ghost use Rattle.sentences.specs.Guess.{guessed_of, meaning_from};
 ghost use Rattle.sentences.specs.Sentences.{unwritten, sentence_call_of, meaning_of};
 
-use super::line::put_sentence;
+use super::line::sentence_in;
 use super::reading::{number_in, place_in};
 use super::{Meaning, WrittenSentence};
 use refusals::{BUFFER_SHORT, OUT_OF_RANGE, Refusal};
@@ -26,7 +26,7 @@ pub fn write_sentence(number: u32, place: u32, buffer: &mut [u8]) -> WrittenSent
     ensures buffer_after { buffer.new ≡ (sentence_call_of number place buffer.old).buffer }
 {
     let mut line = [0u8; 100];
-    let Some(sentence) = put_sentence(&mut line, number, place) else {
+    let Some(sentence) = sentence_in(&mut line, number, place) else {
         return refuse(OUT_OF_RANGE);
     };
     if sentence.len() > buffer.len() {
@@ -48,7 +48,7 @@ fn refusal_in(bytes: &[u8]) -> Option<Refusal>
     let number = number_in(bytes);
     let place = place_in(bytes)?;
     let mut line = [0u8; 100];
-    let sentence = put_sentence(&mut line, number, place)?;
+    let sentence = sentence_in(&mut line, number, place)?;
     (sentence == bytes).then_some(Refusal::new(number, place))
 }
 

@@ -26,12 +26,11 @@ fn minute_from(fajr: Option<i64>) -> Option<i64>
     fajr.map(whole_minutes)
 }
 
-// Works the rows of an order. Each row uses what the row before it has worked.
-pub fn minutes_of(order: Order) -> [Option<i64>; ROWS]
+// Works the rows of an order. Each row uses what the row before it has worked. The array is lent: handed out, it would be twice on the stack.
+pub fn work_minutes(order: Order, minutes: &mut [Option<i64>; ROWS])
     requires { Accepted order }
-    ensures { (k : ℕ) → k < order.rows → minute_in_list result k ≡ row_minute order k }
+    ensures { (k : ℕ) → k < order.rows → minute_in_list minutes.new k ≡ row_minute order k }
 {
-    let mut minutes = [None; ROWS];
     let mut suns = RowSuns::new(order.date, order.setting);
     for row in 0..order.rows as usize {
         if row > 0 {
@@ -39,5 +38,4 @@ pub fn minutes_of(order: Order) -> [Option<i64>; ROWS]
         }
         minutes[row] = minute_from(suns.fajr(order.setting));
     }
-    minutes
 }

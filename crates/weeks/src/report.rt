@@ -9,7 +9,7 @@ ghost use Rattle.weeks.specs.Lines.{report_of};
 ghost use Rattle.weeks.specs.Report.{orders_report, week_text, longest_week};
 
 use super::line::put_window;
-use super::minutes::{ROWS, minutes_of};
+use super::minutes::{ROWS, work_minutes};
 use super::window::window_from;
 use lines::refused::put_refused_order;
 use order::reading::{Order, read};
@@ -38,7 +38,9 @@ fn put_report(buffer: &mut [u8], order: Order) -> usize
     ensures value { result ≡ length (orders_report order) }
     ensures buffer_after { buffer.new ≡ front_of (orders_report order) buffer.old }
 {
-    put_windows(buffer, &minutes_of(order)[..order.rows as usize])
+    let mut minutes = [None; ROWS];
+    work_minutes(order, &mut minutes);
+    put_windows(buffer, &minutes[..order.rows as usize])
 }
 
 // Returns the length of the text, which may be 0. If the buffer is shorter than WEEK_BYTES, the longest text, it stays as it is and 0 is

@@ -47,7 +47,7 @@ use Rattle.solar.specs.Hours.{solar_altitude, transit_number_of, angle_number_of
 use Rattle.solar.specs.Setting.{hour_adjustment_of, minute_of, hour_of, setting_hour_of}
 use Rattle.solar.specs.Times.{solar_hour_of, day_of, solar_time_of}
 use Rattle.night_portions.specs.Portions.{portion_after_of, portion_before_of, seventh_of, middle_of, last_third_of}
-use Rattle.schedule.specs.Hours.{suns_of, hours_of}
+use Rattle.schedule.specs.Hours.{numbered_of, suns_of, hours_of}
 use Rattle.schedule.specs.Numbers.{numbers_of}
 use Rattle.schedule.specs.Times.{start_of, final_of, fajr_tomorrow_of, middle_of_the_night_of, qiyam_of, from_midnight_of, started_of, started_in}
 use Rattle.schedule.specs.Times.{since_from, since_of}
@@ -101,7 +101,7 @@ sun_opened = 0
 
 -- the nine times
 day_opened : ℕ
-unfolding portion_after_of portion_before_of seventh_of middle_of last_third_of suns_of hours_of numbers_of start_of final_of fajr_tomorrow_of
+unfolding portion_after_of portion_before_of seventh_of middle_of last_third_of numbered_of suns_of hours_of numbers_of start_of final_of fajr_tomorrow_of
     middle_of_the_night_of qiyam_of from_midnight_of started_of started_in since_from since_of night_of later_of earlier_of or_of by_seventh_of own_of short_of
     before_sunrise_of unadjusted_fajr_of after_sunset_of isha_bound_of bounded_isha_of unadjusted_isha_of work_row_of
 day_opened = 0

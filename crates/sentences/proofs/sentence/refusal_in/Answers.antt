@@ -1,5 +1,5 @@
 -- The sentence of the number and place that are found is compared whole (`Guessing`). If it is the bytes, they say it; else nothing.
-use Rattle.std.proofs.Common.{◌∙◌, ap}
+use Rattle.std.proofs.Common.{◌∙◌, ap, rules}
 use Rattle.sentences.specs.Guess.{meaning_from}
 use Rattle.sentences.proofs.Making.{reads_no_place, reads_unknown, reads_known}
 use Rattle.sentences.proofs.sentence.refusal_in.Goals as goal
@@ -15,4 +15,4 @@ returns-in_err-sentence c =
 pub returns : goal.returns
 returns c =
     let s = c.in_ok-sentence.ensures in
-    reads_known _ _ _ c.number_in-number.ensures c.in_ok-place.ensures _ _ _ _ s.0 s.1 c.eq.ensures c.new.ensures c.then_some.ensures
+    reads_known _ _ _ c.number_in-number.ensures c.in_ok-place.ensures _ _ _ _ s.0 s.1 (search rules) c.new.ensures c.then_some.ensures

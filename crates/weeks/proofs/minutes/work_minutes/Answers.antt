@@ -1,12 +1,12 @@
-use Rattle.prelude.proofs.Logic.{◌≡◌, refl, ◌∙◌, ◌<◌, arith}
+use Rattle.prelude.proofs.Logic.{◌≡◌, ◌∙◌, ◌<◌, arith, rules}
 use Rattle.days.proofs.RowStates.{first-state, state_of, rolled, at_first}
 use Rattle.weeks.proofs.MinuteLaws.{row_done}
-use Rattle.weeks.proofs.minutes.minutes_of.Goals as goal
-use Rattle.weeks.proofs.minutes.minutes_of.Goals.{then-row-gt0, else-row-gt0}
+use Rattle.weeks.proofs.minutes.work_minutes.Goals as goal
+use Rattle.weeks.proofs.minutes.work_minutes.Goals.{then-row-gt0, else-row-gt0}
 
 pub loop-row-init : goal.loop-row-init
 loop-row-init c =
-    record { state = c.new-suns.ensures ∙ first-state c.args.order c.requires; long = refl; done = λ k h. absurd (omega arith) }
+    record { state = c.new-suns.ensures ∙ first-state c.args.order c.requires; long = search rules; done = λ k h. absurd (omega arith) }
 
 pub loop-row-preserved : goal.loop-row-preserved
 loop-row-preserved c =
