@@ -6,7 +6,7 @@ use Rattle.std.proofs.Common.{Bool, Option, Some, None, nat_eq}
 use Rattle.std.specs.Bool.{then_some}
 use Rattle.std.specs.Cmp.Lexicographic.{pointwise}
 use Rattle.text.specs.Text.{ascii, decimal_of, put_of, front_of}
-use Rattle.text.proofs.TextLaws.{put_next, cut_front}
+use Rattle.text.proofs.TextLaws.{put_next}
 use Rattle.refusals.specs.declared.Refusal.{Refusal}
 use Rattle.refusals.specs.Refusals.{out_of_range, buffer_short, refusal}
 use Rattle.sentences.specs.Table.{text_of, name_of, known}
