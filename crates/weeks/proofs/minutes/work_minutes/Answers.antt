@@ -22,4 +22,4 @@ loop-row-preserved c =
       | then-row-gt0 w ↦ w.suns-is ∙ w.next-suns.ensures ∙ rolled o c.requires l.row h l.suns l.invariant.state w.if-row-gt0.true
       | else-row-gt0 w ↦ w.suns-is ∙ at_first o c.requires l.row l.suns l.invariant.state w.if-row-gt0.false
     ] in
-    row_done o c.requires _ l.minutes _ l.row h state l.invariant.long l.invariant.done l.invariant.rest _ (rw c.fajr.ensures at c.minute_from.ensures)
+    row_done o c.requires _ l.minutes _ l.row h state l.invariant.long l.invariant.done l.invariant.rest _ (search rules)
