@@ -1,12 +1,12 @@
 -- The line that is made of the words, a blank and the place's digits, and what the two calls return. Assumes nothing.
 use Rattle.prelude.proofs.Logic.{◌≡◌, refl, sym, ap, ◌∙◌, true, false, cond, ◌&&◌, List, [], ◌∷◌, ◌++◌, ℕ, ◌+◌, ◌≤◌, ◌<◌, arith, ltb}
-use Rattle.prelude.proofs.Logic.{length, take, length-append, le-ltb, le-leb, lt-leb, cases}
+use Rattle.prelude.proofs.Logic.{length, length-append, le-ltb, le-leb, lt-leb, cases}
 use Rattle.prelude.proofs.Logic.{eqb, eqb-true, eqb-false, lt-ltb, ltb-false}
 use Rattle.std.proofs.Common.{Bool, Option, Some, None, nat_eq}
 use Rattle.std.specs.Bool.{then_some}
 use Rattle.std.specs.Cmp.Lexicographic.{pointwise}
 use Rattle.text.specs.Text.{ascii, decimal_of, put_of, front_of}
-use Rattle.text.proofs.TextLaws.{put_next, cut_front}
+use Rattle.text.proofs.TextLaws.{put_next}
 use Rattle.refusals.specs.declared.Refusal.{Refusal}
 use Rattle.refusals.specs.Refusals.{out_of_range, buffer_short, refusal}
 use Rattle.sentences.specs.Table.{text_of, name_of, known}

@@ -2,7 +2,7 @@
 use Rattle.std.specs.Prelude.{Err, None, Ok, Option, Result}
 use Rattle.schedule.specs.declared.prayer_times.PrayerTimes.{PrayerTimes}
 use Rattle.refusals.specs.declared.Refusal.{Refusal}
-use Rattle.prelude.proofs.Logic.{◌≡◌, refl, ap, ◌∙◌, List, ℕ, ◌+◌, ◌-◌, ◌*◌, ◌/◌, ◌%◌, ◌^◌, ◌<◌, arith, lit≤, lit<, ℤ}
+use Rattle.prelude.proofs.Logic.{◌≡◌, refl, ap, ◌∙◌, List, ℕ, ◌+◌, ◌-◌, ◌*◌, ◌/◌, ◌%◌, ◌^◌, ◌<◌, ◌≤◌, arith, lit≤, lit<, ℤ}
 use Rattle.prelude.proofs.Logic.{pos, negsuc, ◌+ℤ◌, ◌*ℤ◌, w64, SFits, to_z, to_z_pos, length, set, length-set, get_or-set_same, get_or-set_other}
 use Rattle.calendar.specs.Answers.{row_date_of}
 use Rattle.days.proofs.RowStates.{state_of, state-worked}
@@ -77,17 +77,19 @@ state_minute o a k h =
     ∙ ap (λ (w : Result PrayerTimes Refusal). minute_from (fajr_in (row_date_of o.date k) w)) (state-worked o a k h)
     ∙ minute_is o k (work_row_of o k)
 
--- ---- rows that are kept. Before a row the suns are those of the row before it, or at first those of row 0.
-pub record Run (o : Order) (minutes : List (Option ℤ)) (suns : RowSuns) (row : ℕ) : Type 0 where
+-- ---- rows that are kept. Before a row the suns are those of the row before it, or at first those of row 0. `lent` are the minutes at first.
+pub record Run (o : Order) (lent minutes : List (Option ℤ)) (suns : RowSuns) (row : ℕ) : Type 0 where
   pub state : suns ≡ state_of o (row - 1)
   pub long : length minutes ≡ 400
   pub done : (k : ℕ) → k < row → minute_in_list minutes k ≡ row_minute o k
+  pub rest : (k : ℕ) → row ≤ k → minute_in_list minutes k ≡ minute_in_list lent k
 
 -- after a row: its minute is kept too
-pub row_done : (o : Order) → Accepted o → (kept : List (Option ℤ)) (suns : RowSuns) (row : ℕ) → row < o.rows → suns ≡ state_of o row
+pub row_done : (o : Order) → Accepted o → (lent kept : List (Option ℤ)) (suns : RowSuns) (row : ℕ) → row < o.rows → suns ≡ state_of o row
     → length kept ≡ 400 → ((k : ℕ) → k < row → minute_in_list kept k ≡ row_minute o k)
-    → (minute : Option ℤ) → minute ≡ minute_from (row_suns_fajr_of o.setting suns) → Run o (set kept row minute) suns (row + 1)
-row_done o a kept suns row h state long done minute is =
+    → ((k : ℕ) → row ≤ k → minute_in_list kept k ≡ minute_in_list lent k)
+    → (minute : Option ℤ) → minute ≡ minute_from (row_suns_fajr_of o.setting suns) → Run o lent (set kept row minute) suns (row + 1)
+row_done o a lent kept suns row h state long done rest minute is =
     let room : row < length kept = omega (arith, a.rows.1) in
     let e : row ≡ row + 1 - 1 = omega arith in
     record {
@@ -97,4 +99,5 @@ row_done o a kept suns row h state long done minute is =
           (λ k b. get_or-set_other kept row k minute None (λ e. omega arith) ∙ done k b)
           (get_or-set_same kept row minute None room ∙ is ∙ ap (λ (s : RowSuns). minute_from (row_suns_fajr_of o.setting s)) state
           ∙ state_minute o a row h);
+      rest = λ k b. get_or-set_other kept row k minute None (λ e. omega arith) ∙ rest k (omega arith);
     }

@@ -1,5 +1,5 @@
 // The minutes of all rows: each row's Fajr by the clock, or None if its day is refused.
-ghost use Rattle.std.specs.Prelude.{◌≡◌, ℕ, ◌<◌};
+ghost use Rattle.std.specs.Prelude.{◌≡◌, ℕ, ◌<◌, ◌≤◌};
 ghost use Rattle.integers.specs.Quotients.{floor_quot};
 ghost use Rattle.order.specs.Accepted.{Accepted};
 ghost use Rattle.weeks.specs.Kept.{minute_from, minute_in_list};
@@ -26,10 +26,12 @@ fn minute_from(fajr: Option<i64>) -> Option<i64>
     fajr.map(whole_minutes)
 }
 
-// Works the rows of an order. Each row uses what the row before it has worked. The array is lent: handed out, it would be twice on the stack.
+// Works the rows of an order; what lies behind them stays. Each row uses what the row before it has worked. The array is lent: handed out,
+// it would be twice on the stack.
 pub fn work_minutes(order: Order, minutes: &mut [Option<i64>; ROWS])
     requires { Accepted order }
-    ensures { (k : ℕ) → k < order.rows → minute_in_list minutes.new k ≡ row_minute order k }
+    ensures rows { (k : ℕ) → k < order.rows → minute_in_list minutes.new k ≡ row_minute order k }
+    ensures rest { (k : ℕ) → order.rows ≤ k → minute_in_list minutes.new k ≡ minute_in_list minutes.old k }
 {
     let mut suns = RowSuns::new(order.date, order.setting);
     for row in 0..order.rows as usize {

@@ -1,4 +1,4 @@
-use Rattle.prelude.proofs.Logic.{◌≡◌, ◌∙◌, ◌<◌, arith, rules}
+use Rattle.prelude.proofs.Logic.{◌≡◌, refl, ◌∙◌, ◌<◌, arith, rules}
 use Rattle.days.proofs.RowStates.{first-state, state_of, rolled, at_first}
 use Rattle.weeks.proofs.MinuteLaws.{row_done}
 use Rattle.weeks.proofs.minutes.work_minutes.Goals as goal
@@ -6,7 +6,12 @@ use Rattle.weeks.proofs.minutes.work_minutes.Goals.{then-row-gt0, else-row-gt0}
 
 pub loop-row-init : goal.loop-row-init
 loop-row-init c =
-    record { state = c.new-suns.ensures ∙ first-state c.args.order c.requires; long = search rules; done = λ k h. absurd (omega arith) }
+    record {
+      state = c.new-suns.ensures ∙ first-state c.args.order c.requires;
+      long = search rules;
+      done = λ k h. absurd (omega arith);
+      rest = λ k h. refl;
+    }
 
 pub loop-row-preserved : goal.loop-row-preserved
 loop-row-preserved c =
@@ -17,4 +22,4 @@ loop-row-preserved c =
       | then-row-gt0 w ↦ w.suns-is ∙ w.next-suns.ensures ∙ rolled o c.requires l.row h l.suns l.invariant.state w.if-row-gt0.true
       | else-row-gt0 w ↦ w.suns-is ∙ at_first o c.requires l.row l.suns l.invariant.state w.if-row-gt0.false
     ] in
-    row_done o c.requires l.minutes _ l.row h state l.invariant.long l.invariant.done _ (rw c.fajr.ensures at c.minute_from.ensures)
+    row_done o c.requires _ l.minutes _ l.row h state l.invariant.long l.invariant.done l.invariant.rest _ (search rules)
