@@ -1,12 +1,12 @@
 -- The line that is made of the words, a blank and the place's digits, and what the two calls return. Assumes nothing.
 use Rattle.prelude.proofs.Logic.{◌≡◌, refl, sym, ap, ◌∙◌, true, false, cond, ◌&&◌, List, [], ◌∷◌, ◌++◌, ℕ, ◌+◌, ◌≤◌, ◌<◌, arith, ltb}
-use Rattle.prelude.proofs.Logic.{length, length-append, le-ltb, le-leb, lt-leb, cases}
+use Rattle.prelude.proofs.Logic.{length, take, length-append, le-ltb, le-leb, lt-leb, cases}
 use Rattle.prelude.proofs.Logic.{eqb, eqb-true, eqb-false, lt-ltb, ltb-false}
 use Rattle.std.proofs.Common.{Bool, Option, Some, None, nat_eq}
 use Rattle.std.specs.Bool.{then_some}
 use Rattle.std.specs.Cmp.Lexicographic.{pointwise}
 use Rattle.text.specs.Text.{ascii, decimal_of, put_of, front_of}
-use Rattle.text.proofs.TextLaws.{put_next}
+use Rattle.text.proofs.TextLaws.{put_next, cut_front}
 use Rattle.refusals.specs.declared.Refusal.{Refusal}
 use Rattle.refusals.specs.Refusals.{out_of_range, buffer_short, refusal}
 use Rattle.sentences.specs.Table.{text_of, name_of, known}
@@ -64,9 +64,9 @@ module _ (n p : ℕ) (line a b c : List ℕ) (w d : ℕ) (l : length line ≡ 10
   pub line_holds : w + 1 + d ≤ 100
   line_holds = let s = words_short n p in let t = ten_digits p h in omega arith
 
-  pub line_says : known n ≡ true → a ≡ front_of (words_of n p) line → b ≡ put_of a w (ascii " ") → c ≡ put_of b (w + 1) (decimal_of p)
+  pub line_filled : known n ≡ true → a ≡ front_of (words_of n p) line → b ≡ put_of a w (ascii " ") → c ≡ put_of b (w + 1) (decimal_of p)
       → (w + 1 + d ≡ length (sentence_of n p)) × (c ≡ front_of (sentence_of n p) line)
-  line_says k f q r =
+  line_filled k f q r =
       let s = words_short n p in let t = ten_digits p h in let m = length-append (words_of n p) (ascii " ") in
       let u : b ≡ front_of (words_of n p ++ ascii " ") line = put_next line (words_of n p) (ascii " ") a b w f e q (omega arith) in
       let y = sentence_length n p k in (
@@ -74,6 +74,10 @@ module _ (n p : ℕ) (line a b c : List ℕ) (w d : ℕ) (l : length line ≡ 10
         put_next line (words_of n p ++ ascii " ") (decimal_of p) b c (w + 1) u (omega arith) r (omega arith)
             ∙ ap (λ (t : List ℕ). front_of t line) (sym (sentence_known n p k)),
       )
+
+  pub line_says : known n ≡ true → a ≡ front_of (words_of n p) line → b ≡ put_of a w (ascii " ") → c ≡ put_of b (w + 1) (decimal_of p)
+      → take (w + 1 + d) c ≡ sentence_of n p
+  line_says k f q r = let m = line_filled k f q r in cut_front (sentence_of n p) line c (w + 1 + d) m.0 m.1
 
 -- an unknown number has no words, and so no sentence: the line stays
 pub line_stays : (n p : ℕ) (line a : List ℕ) → known n ≡ false → a ≡ front_of (words_of n p) line → a ≡ front_of (sentence_of n p) line

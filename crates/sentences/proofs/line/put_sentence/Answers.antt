@@ -1,6 +1,6 @@
 -- The words, a blank and the place's digits, put one after the other, are the sentence. An unknown number has none.
 use Rattle.prelude.proofs.Logic.{[], arith, rules}
-use Rattle.sentences.proofs.Making.{line_holds, line_says, line_stays}
+use Rattle.sentences.proofs.Making.{line_holds, line_filled, line_stays}
 use Rattle.sentences.proofs.line.put_sentence.Goals as goal
 
 pub returns-in_err-words-clause-line_after : goal.returns-in_err-words-clause-line_after
@@ -16,6 +16,6 @@ overflow_add-result-2 c =
 pub returns : goal.returns
 returns c =
     let w = c.in_ok-words.ensures in let d = rw c.from.ensures at c.put_decimal.ensures in
-    let s = line_says _ c.args.place c.args.line.now _ c.put.new.buffer _ _ _ (search rules) (search rules) w.value.1 d.value w.value.0 w.line_after
+    let s = line_filled _ c.args.place c.args.line.now _ c.put.new.buffer _ _ _ (search rules) (search rules) w.value.1 d.value w.value.0 w.line_after
     c.put.ensures d.buffer_after in
     record { value = (w.value.0, s.0); line_after = s.1 }
