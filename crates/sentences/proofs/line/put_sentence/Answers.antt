@@ -15,7 +15,7 @@ overflow_add-result-2 c =
 
 pub returns : goal.returns
 returns c =
-    let w = c.in_ok-words.ensures in let d = rw c.from.ensures at c.put_decimal.ensures in
-    let s = line_filled _ c.args.place c.args.line.now _ c.put.new.buffer _ _ _ (search rules) (search rules) w.value.1 d.value w.value.0 w.line_after
-    c.put.ensures d.buffer_after in
+    let w = c.in_ok-words.ensures in let d = rw c.from.ensures at c.put_decimal.ensures in let a = c.args in
+    let s = line_filled _ a.place a.line.now _ c.put.new.buffer _ _ _ (search rules) (search rules) w.value.1 d.value w.value.0
+    w.line_after c.put.ensures d.buffer_after in
     record { value = (w.value.0, s.0); line_after = s.1 }
